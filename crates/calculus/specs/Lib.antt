@@ -1,0 +1,3 @@
+pub mod Branch
+pub mod Derivation
+pub mod Writing

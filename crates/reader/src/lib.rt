@@ -1,0 +1,1 @@
+// Reading an instance text: lines, tokens, numbers. What it must answer is said in specs/.

@@ -1,0 +1,3 @@
+pub mod Value
+pub mod Better
+pub mod Examples
