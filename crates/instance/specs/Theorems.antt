@@ -1,0 +1,4 @@
+-- Laws about the definitions of this crate, for the proofs of every layer.
+pub mod Choices
+pub mod Every
+pub mod Literals
