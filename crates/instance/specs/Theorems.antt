@@ -2,3 +2,6 @@
 pub mod Choices
 pub mod Every
 pub mod Literals
+pub mod Codes
+pub mod Store
+pub mod Memory

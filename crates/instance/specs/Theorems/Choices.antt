@@ -28,9 +28,13 @@ pub neither : (a b : Bool) → (a || b) ≡ false → (a ≡ false) × (b ≡ fa
 neither true b h = never h
 neither false b h = (refl, h)
 
-pub eqb-sym : (x y : ℕ) → eqb x y ≡ eqb y x
-eqb-sym x y = go (ℕ-discrete x y)
+-- two tests for equality agree where each equation gives the other
+pub eqb-same : (a b c d : ℕ) → (a ≡ b → c ≡ d) → (c ≡ d → a ≡ b) → eqb a b ≡ eqb c d
+eqb-same a b c d f g = go (ℕ-discrete a b)
   where
-    go : Dec (x ≡ y) → eqb x y ≡ eqb y x
-    go (yes e) = eq-eqb x y e ∙ sym (eq-eqb y x (sym e))
-    go (no n) = ne-eqb x y n ∙ sym (ne-eqb y x (λ e. n (sym e)))
+    go : Dec (a ≡ b) → eqb a b ≡ eqb c d
+    go (yes e) = eq-eqb a b e ∙ sym (eq-eqb c d (f e))
+    go (no n) = ne-eqb a b n ∙ sym (ne-eqb c d (λ e. n (g e)))
+
+pub eqb-sym : (a b : ℕ) → eqb a b ≡ eqb b a
+eqb-sym a b = eqb-same a b b a sym sym
