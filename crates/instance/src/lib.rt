@@ -1,5 +1,6 @@
 // What every layer shares: the instance record with its limits, the refusal, the answers, the sizes of the lent memory.
 mod answers;
+mod memory;
 mod refusals;
 mod workspaces;
 
@@ -9,6 +10,7 @@ pub use answers::Claim;
 pub use answers::Surveyed;
 pub use answers::Valued;
 pub use answers::Written;
+pub use memory::clear;
 pub use refusals::Stage;
 pub use refusals::refusal;
 pub use workspaces::CELLS;

@@ -5,3 +5,4 @@ pub mod Reading
 pub mod Survey
 pub mod Quoted
 pub mod Examples
+pub mod Theorems

@@ -1,0 +1,75 @@
+-- Walking over a store that holds an instance: its clauses one by one, and where their literals lie.
+use Prim.Native.Nat.{ℕ, zero, suc, _+_, _-_, _<_, _≤_}
+use mathlib.Core.List.{List, [], _∷_, _++_}
+use mathlib.Core.Option.{some, none}
+use mathlib.Core.Path.{_≡_, refl, ap, _∙_}
+use native.Mathlib.Omega.{arith}
+use native.Mathlib.Decide.{ℕ-discrete}
+use native.Mathlib.Numerals.{add-one}
+use lib.ListN.{length, getD, take, drop, length-append, List·getD-append}
+use lib.Seq.{drop-cons, getD-at}
+use Rattle.instance.specs.Limits.{mostLiterals}
+use Rattle.instance.specs.Clause.{Clause, Problem, clauseAt}
+use Rattle.instance.specs.Store.{literalsAt, startIn, endIn, codesIn, clauseIn, clausesIn, Laid, Stored}
+
+-- ---- the clauses by index
+pub clauses-length : (store : List ℕ) (K : ℕ) → length (clausesIn store K) ≡ K
+unfolding clausesIn
+clauses-length store zero = refl
+clauses-length store (suc K) = omega (arith, clauses-length store K, length-append (clausesIn store K) (clauseIn store K ∷ []))
+
+pub clauses-get : (store : List ℕ) (K k : ℕ) (d : Clause) → k < K → getD (clausesIn store K) k d ≡ clauseIn store k
+unfolding clausesIn
+clauses-get store zero k d h = absurd (omega arith)
+clauses-get store (suc K) k d h = go (ℕ-discrete k K) (clauses-get store K k d)
+  where
+    go : Dec (k ≡ K) → (k < K → getD (clausesIn store K) k d ≡ clauseIn store k) → getD (clausesIn store K ++ (clauseIn store K ∷ [])) k d ≡ clauseIn store k
+    go (yes e) ih = rw e (getD-at (clausesIn store K) (clauseIn store K) [] d K (clauses-length store K))
+    go (no n) ih =
+        let l : k < K = omega (arith, n) in
+        List·getD-append (clausesIn store K) (clauseIn store K ∷ []) d k (omega (arith, clauses-length store K)) ∙ ih l
+
+-- ---- the clauses by number
+clause-at : (cs : List Clause) (k : ℕ) (d : Clause) → k < length cs → clauseAt cs (suc k) ≡ some (getD cs k d)
+unfolding clauseAt
+clause-at [] k d h = absurd (omega arith)
+clause-at (c ∷ cs) zero d h = refl
+clause-at (c ∷ cs) (suc k) d h = clause-at cs k d (omega arith)
+
+pub no-clause : (cs : List Clause) (i : ℕ) → length cs < i → clauseAt cs i ≡ none
+unfolding clauseAt
+no-clause [] i h = refl
+no-clause (c ∷ cs) zero h = refl
+no-clause (c ∷ cs) (suc zero) h = absurd (omega arith)
+no-clause (c ∷ cs) (suc (suc i)) h = no-clause cs (suc i) (omega arith)
+
+module _ {store : List ℕ} {I : Problem} (s : Stored store I) (k : ℕ) (h : k < length (I .clauses)) where
+  stored-get : getD (I .clauses) k (clauseIn store k) ≡ clauseIn store k
+  stored-get = rw (s .clauses) at (clauses-get store (length (I .clauses)) k (clauseIn store k) h)
+
+  pub stored-clause : clauseAt (I .clauses) (k + 1) ≡ some (clauseIn store k)
+  stored-clause = rw add-one (clause-at (I .clauses) k (clauseIn store k) h ∙ ap some stored-get)
+
+  -- what is left of the clauses at index k
+  pub stored-rest : drop k (I .clauses) ≡ clauseIn store k ∷ drop (k + 1) (I .clauses)
+  stored-rest = rw add-one (drop-cons (I .clauses) k (clauseIn store k) h ∙ ap (λ (c : Clause). c ∷ drop (suc k) (I .clauses)) stored-get)
+
+-- ---- where the literals lie
+-- the part of the store from a clause's first literal to its last
+pub codes-lent : (store : List ℕ) (k : ℕ) → take (literalsAt + endIn store k - (literalsAt + startIn store k)) (drop (literalsAt + startIn store k) store) ≡ codesIn store k
+codes-lent store k =
+    let e : literalsAt + endIn store k - (literalsAt + startIn store k) ≡ endIn store k - startIn store k = omega arith in
+    rw e
+
+module _ {store : List ℕ} {n K : ℕ} (laid : Laid store n K) where
+  pub start-within : (k : ℕ) → k ≤ K → startIn store k ≤ mostLiterals
+  start-within zero h = omega arith
+  start-within (suc k) h = laid .within k h
+
+  pub ends-rise : (k m : ℕ) → k < m → m ≤ K → endIn store k ≤ startIn store m
+  ends-rise k zero h l = absurd (omega arith)
+  ends-rise k (suc m) h l = go (ℕ-discrete k m) (ends-rise k m)
+    where
+      go : Dec (k ≡ m) → (k < m → m ≤ K → endIn store k ≤ startIn store m) → endIn store k ≤ endIn store m
+      go (yes e) ih = rw e (omega arith)
+      go (no n) ih = omega (arith, ih (omega (arith, n)) (omega arith), laid .order m l)
