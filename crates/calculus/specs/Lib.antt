@@ -1,3 +1,5 @@
 pub mod Branch
 pub mod Derivation
 pub mod Writing
+pub mod Claims
+pub mod Theorems
