@@ -7,4 +7,5 @@ pub mod Fair
 pub mod Extension
 pub mod Contradiction
 pub mod Root
+pub mod Walked
 pub mod Sound

@@ -3,14 +3,12 @@
 use Prim.Native.Nat.{ℕ, suc, _+_, _≤_, min}
 use mathlib.Core.Bool.{Bool, true, false, _||_}
 use mathlib.Core.List.{List, [], _∷_, _++_}
-use mathlib.Core.Path.{_≡_, refl, subst, _∙_}
+use mathlib.Core.Path.{_≡_, refl, subst}
 use native.Mathlib.Omega.{arith}
 use lib.Dec.{leb}
-use lib.ListN.{length}
 use Rattle.instance.specs.Clause.{Problem}
 use Rattle.instance.specs.Meaning.{Assignment, feasible, cost}
 use Rattle.instance.specs.Within.{Every, Fits}
-use Rattle.instance.specs.Refusals.{staged}
 use Rattle.instance.specs.declared.answers.Claim.{Claim}
 use Rattle.instance.specs.declared.answers.Claim.the-variants.{Minimum, Infeasible}
 use Rattle.instance.specs.declared.answers.Checked.{Checked}
@@ -18,14 +16,15 @@ use Rattle.instance.specs.declared.answers.Checked.the-variants.{Accepted, Refu
 use Rattle.calculus.specs.declared.Record.{Record}
 use Rattle.calculus.specs.Branch.{Branch, root}
 use Rattle.calculus.specs.Claims.{True}
-use Rattle.calculus.specs.Derivation.{Item, whole, other, size, Step, stop, go, closable, step, walk}
-use Rattle.calculus.specs.Theorems.Basics.{tests, clash, due, every-append}
+use Rattle.calculus.specs.Derivation.{Item, closable, walk}
+use Rattle.calculus.specs.Theorems.Basics.{tests, due, every-append}
 use Rattle.calculus.specs.Theorems.Worth.{bill, units, raw, worth, least}
 use Rattle.calculus.specs.Theorems.Fair.{Sane, Fair}
 use Rattle.calculus.specs.Theorems.Extension.{extend-fair}
 use Rattle.calculus.specs.Theorems.Contradiction.{contradict-fair}
 use Rattle.calculus.specs.Theorems.Root.{root-worth, bill-cost, sane-root}
-use Rattle.calculus.specs.Theorems.Steps.{Stepped, closed, contradicted, extended, OnGo, stepped}
+use Rattle.calculus.specs.Theorems.Steps.{Stepped, closed, contradicted, extended}
+use Rattle.calculus.specs.Theorems.Walked.{walk-kept}
 
 -- the caps that serve a claim: m under M, any under N
 abbrev pub Caps : Claim → ℕ → Type 0
@@ -80,20 +79,12 @@ module _ (I : Problem) where
       shown-before b bs new f (Refused s) h = tt
 
       walk-shown : (is : List Item) (at m : ℕ) (bs : List Branch) → Every (Sane n) bs → Shown bs (walk I k is at m bs)
-      unfolding walk
-      walk-shown [] at m [] s = λ σ. unfold least in refl
-      walk-shown [] at m (b ∷ bs) s = tt
-      walk-shown (i ∷ is) at m [] s = tt
-      walk-shown (other ∷ is) at m (b ∷ bs) s = tt
-      walk-shown (whole r ∷ is) at m (b ∷ bs) s = after (step I k r b) (stepped I k b r) (λ new. walk-shown is (at + size r) (suc m) (new ++ bs))
-        where
-          after : (t : Step) → OnGo (Stepped I k b r) t →
-              ((new : List Branch) → Every (Sane n) (new ++ bs) → Shown (new ++ bs) (walk I k is (at + size r) (suc m) (new ++ bs))) →
-              Shown (b ∷ bs) (elim t as (λ _. Checked) [ stop e ↦ Refused (staged e at) | go new ↦ walk I k is (at + size r) (suc m) (new ++ bs) ])
-          after (stop e) d h = tt
-          after (go new) d h =
-              shown-before b bs new (stepped-fair H q r b new (s .0) d) (walk I k is (at + size r) (suc m) (new ++ bs))
-              (h new (every-append (Sane n) new bs (stepped-sane r b new (s .0) d) (s .1)))
+      walk-shown = walk-kept I k (Every (Sane n)) (λ is m bs. Shown bs) (record {
+        done = λ m σ. unfold least in refl;
+        refused = λ is m bs t. tt;
+        next = λ r b bs new s d. every-append (Sane n) new bs (stepped-sane r b new (s .0) d) (s .1);
+        more = λ is m r b bs new s d o h. shown-before b bs new (stepped-fair H q r b new (s .0) d) o h;
+      })
 
       -- so every assignment's bill is the cap at least
       pub accepted-bill : Fits I → (is : List Item) (at m : ℕ) (c : Claim) (a : ℕ) → walk I k is at m (root (I .clauses) ∷ []) ≡ Accepted c a →
@@ -117,33 +108,3 @@ module _ (I : Problem) where
           let H = suc (cost σ (I .clauses)) in
           absurd (omega (arith, accepted-bill Infeasible H tt fits is at m c a e σ, bill-cost H n σ (I .clauses) f))
       by σ false f = refl
-
--- An accepted check gives the claim that it was asked about, and counts the records.
-pub record Counted (k : Claim) (m : ℕ) (is : List Item) (c : Claim) (a : ℕ) : Type 0 where
-  pub claim : c ≡ k
-  pub count : a ≡ m + length is
-
-abbrev OnAccepted : (Claim → ℕ → Type 0) → Checked → Type 0
-OnAccepted P (Accepted c a) = P c a
-OnAccepted P (Refused s) = Unit {0}
-
-counted : (I : Problem) (k : Claim) (is : List Item) (at m : ℕ) (bs : List Branch) → OnAccepted (Counted k m is) (walk I k is at m bs)
-unfolding walk
-counted I k [] at m [] = record { claim = refl; count = omega arith }
-counted I k [] at m (b ∷ bs) = tt
-counted I k (i ∷ is) at m [] = tt
-counted I k (other ∷ is) at m (b ∷ bs) = tt
-counted I k (whole r ∷ is) at m (b ∷ bs) = after (step I k r b) (λ new. counted I k is (at + size r) (suc m) (new ++ bs))
-  where
-    more : (o : Checked) → OnAccepted (Counted k (suc m) is) o → OnAccepted (Counted k m (whole r ∷ is)) o
-    more (Accepted c a) h = record { claim = h .claim; count = omega (arith, h .count) }
-    more (Refused s) h = tt
-
-    after : (t : Step) → ((new : List Branch) → OnAccepted (Counted k (suc m) is) (walk I k is (at + size r) (suc m) (new ++ bs))) →
-        OnAccepted (Counted k m (whole r ∷ is)) (elim t as (λ _. Checked) [ stop e ↦ Refused (staged e at) | go new ↦ walk I k is (at + size r) (suc m) (new ++ bs) ])
-    after (stop e) h = tt
-    after (go new) h = more (walk I k is (at + size r) (suc m) (new ++ bs)) (h new)
-
-pub accepted-counted : (I : Problem) (k : Claim) (is : List Item) (at m : ℕ) (bs : List Branch) (c : Claim) (a : ℕ) →
-    walk I k is at m bs ≡ Accepted c a → Counted k m is c a
-accepted-counted I k is at m bs c a e = subst (OnAccepted (Counted k m is)) e (counted I k is at m bs)
