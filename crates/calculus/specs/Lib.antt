@@ -2,4 +2,5 @@ pub mod Branch
 pub mod Derivation
 pub mod Writing
 pub mod Claims
+pub mod Bounds
 pub mod Theorems

@@ -9,3 +9,4 @@ pub mod Contradiction
 pub mod Root
 pub mod Walked
 pub mod Sound
+pub mod Written
