@@ -1,0 +1,12 @@
+pub mod Basics
+pub mod Sum
+pub mod Literals
+pub mod Steps
+pub mod Worth
+pub mod Fair
+pub mod Extension
+pub mod Contradiction
+pub mod Root
+pub mod Walked
+pub mod Sound
+pub mod Written

@@ -1,0 +1,178 @@
+-- What the rules and the records do, a case for each: the tests of the definitions are gone through here and nowhere else.
+use Prim.Native.Nat.{ℕ, _-_, _<_, _≤_, min}
+use mathlib.Core.Bool.{Bool, true, false, not, _&&_, and-eq-true-iff}
+use mathlib.Core.List.{List, [], _∷_, map}
+use mathlib.Core.Option.{Option, some, none}
+use mathlib.Core.Path.{_≡_, refl, _∙_}
+use native.Mathlib.Omega.{arith}
+use lib.Dec.{leb, ltb}
+use borrow.Author.Tests.{leb-true, ltb-true, le-leb}
+use Rattle.instance.specs.Clause.{Literal, pos, neg, soft, Body, clause, Clause, Problem, variableOf, opposite, tautology, clauseAt}
+use Rattle.instance.specs.declared.answers.Claim.{Claim}
+use Rattle.calculus.specs.declared.Record.{Record}
+use Rattle.calculus.specs.declared.Record.the-variants.{E, C, Q}
+use Rattle.calculus.specs.Branch.{
+  Branch,
+  setWeight,
+  book,
+  kill,
+  put,
+  several,
+  spent,
+  disjuncts,
+  branches,
+  unless,
+  extendBy,
+  extend,
+  spend,
+  cancelBy,
+  contradictBy,
+  contradict,
+}
+use Rattle.calculus.specs.Derivation.{Step, stop, go, closable, closing, offered, extending, settled, contradicting, step}
+use Rattle.calculus.specs.Theorems.Basics.{tests, clash}
+
+-- ---- a contradiction at x: 01's three cases, and the two where there is nothing to contradict
+pub data Contradiction (x : ℕ) (b : Branch) : Option Branch → Type 0 where
+  bothHard : b .marked (pos x) ≡ true → b .marked (neg x) ≡ true → Contradiction x b (some (kill b))
+  oneHard : (l : Literal) → variableOf l ≡ x → b .marked (opposite l) ≡ true → 0 < b .weight l →
+      Contradiction x b (some (book (b .weight l) (setWeight l 0 b)))
+  bothSoft : (s : ℕ) → s ≡ min (b .weight (pos x)) (b .weight (neg x)) → 0 < s →
+      Contradiction x b (some (book s (setWeight (pos x) (b .weight (pos x) - s) (setWeight (neg x) (b .weight (neg x) - s) b))))
+  noWeight : (l : Literal) → variableOf l ≡ x → b .marked (opposite l) ≡ true → b .marked l ≡ false → b .weight l ≡ 0 → Contradiction x b none
+  noPair : b .marked (pos x) ≡ false → b .marked (neg x) ≡ false → min (b .weight (pos x)) (b .weight (neg x)) ≡ 0 → Contradiction x b none
+
+pub contradiction : (x : ℕ) (b : Branch) → Contradiction x b (contradict x b)
+unfolding contradict contradictBy variableOf opposite
+contradiction x b = by (b .marked (pos x)) refl (b .marked (neg x)) refl
+  where
+    s : ℕ
+    s = min (b .weight (pos x)) (b .weight (neg x))
+
+    spends : (l : Literal) → variableOf l ≡ x → b .marked (opposite l) ≡ true → b .marked l ≡ false → Contradiction x b (spend l b)
+    spends l v m u = unfold spend in (test (ltb 0 (b .weight l)) refl)
+      where
+        test : (t : Bool) → ltb 0 (b .weight l) ≡ t →
+            Contradiction x b (elim t as (λ _. Option Branch) [ true ↦ some (book (b .weight l) (setWeight l 0 b)) | false ↦ none ])
+        test true e = oneHard l v m (ltb-true 0 (b .weight l) e)
+        test false e = noWeight l v m u (omega (arith, tests))
+
+    cancels : b .marked (pos x) ≡ false → b .marked (neg x) ≡ false → Contradiction x b (cancelBy x s b)
+    cancels u v = unfold cancelBy in (test (ltb 0 s) refl)
+      where
+        test : (t : Bool) → ltb 0 s ≡ t →
+            Contradiction x b (elim t as (λ _. Option Branch) [
+              | true ↦ some (book s (setWeight (pos x) (b .weight (pos x) - s) (setWeight (neg x) (b .weight (neg x) - s) b)))
+              | false ↦ none
+            ])
+        test true e = bothSoft s refl (ltb-true 0 s e)
+        test false e = noPair u v (omega (arith, tests))
+
+    by : (p : Bool) → b .marked (pos x) ≡ p → (q : Bool) → b .marked (neg x) ≡ q → Contradiction x b (contradictBy p q x b)
+    by true u true v = bothHard u v
+    by true u false v = spends (neg x) refl u v
+    by false u true v = spends (pos x) refl v u
+    by false u false v = cancels u v
+
+-- ---- what an extension opens: a branch for each literal of two or more, or nothing
+abbrev pub single : Literal → Body
+single l = clause (l ∷ [])
+
+pub data Disjunction : Body → Option (List Body) → Type 0 where
+  literals : (l k : Literal) (ks : List Literal) → tautology (l ∷ k ∷ ks) ≡ false → Disjunction (clause (l ∷ k ∷ ks)) (some (map single (l ∷ k ∷ ks)))
+  short : (ls : List Literal) → several ls ≡ false → Disjunction (clause ls) none
+  both : (ls : List Literal) → tautology ls ≡ true → Disjunction (clause ls) none
+
+pub disjunction : (p : Body) → Disjunction p (disjuncts p)
+unfolding disjuncts several
+disjunction (clause []) = short [] (unfold several in refl)
+disjunction (clause (l ∷ [])) = short (l ∷ []) (unfold several in refl)
+disjunction (clause (l ∷ k ∷ ks)) = by (tautology (l ∷ k ∷ ks)) refl
+  where
+    ls : List Literal
+    ls = l ∷ k ∷ ks
+
+    by : (t : Bool) → tautology ls ≡ t → Disjunction (clause ls) (elim (not t) as (λ _. Option (List Body)) [ true ↦ some (map single ls) | false ↦ none ])
+    by true e = both ls e
+    by false e = literals l k ks e
+
+-- ---- a record that is not refused
+pub data Stepped (I : Problem) (k : Claim) (b : Branch) : Record → List Branch → Type 0 where
+  closed : closable k b ≡ true → Stepped I k b Q []
+  contradicted : {b′ : Branch} (x : ℕ) → b .dead ≡ false → 1 ≤ x → x ≤ I .variables → Contradiction x b (some b′) → Stepped I k b (C x) (b′ ∷ [])
+  extended : (i : ℕ) (c : Clause) (ps : List Body) → b .dead ≡ false → clauseAt (b .rules) i ≡ some c → spent (c .weight) ≡ false →
+      Disjunction (c .body) (some ps) → Stepped I k b (E i) (branches (c .weight) ps (put i (soft 0) b))
+
+-- of a step that is not refused
+abbrev pub OnGo : (List Branch → Type 0) → Step → Type 0
+OnGo P (stop e) = Unit {0}
+OnGo P (go new) = P new
+
+module _ (I : Problem) (k : Claim) (b : Branch) where
+  extending-is : (i : ℕ) → b .dead ≡ false → OnGo (Stepped I k b (E i)) (extending i b)
+  unfolding extending
+  extending-is i d = at (clauseAt (b .rules) i) refl
+    where
+      offers : (c : Clause) → clauseAt (b .rules) i ≡ some c → OnGo (Stepped I k b (E i)) (offered (extend b i c))
+      offers c e = unfold extend in (by (spent (c .weight)) refl (disjuncts (c .body)) (disjunction (c .body)))
+        where
+          by : (t : Bool) → spent (c .weight) ≡ t → (o : Option (List Body)) → Disjunction (c .body) o →
+              OnGo (Stepped I k b (E i)) (offered (unless t (extendBy (c .weight) o (put i (soft 0) b))))
+          by true u o p = unfold unless offered in tt
+          by false u none p = unfold unless extendBy offered in tt
+          by false u (some ps) p = unfold unless extendBy offered in (extended i c ps d e u p)
+
+      at : (o : Option Clause) → clauseAt (b .rules) i ≡ o →
+          OnGo (Stepped I k b (E i)) (elim o as (λ _. Step) [ none ↦ stop 15 | some c ↦ offered (extend b i c) ])
+      at none e = tt
+      at (some c) e = offers c e
+
+  contradicting-is : (x : ℕ) → b .dead ≡ false → OnGo (Stepped I k b (C x)) (contradicting I x b)
+  unfolding contradicting
+  contradicting-is x d = by (leb 1 x && leb x (I .variables)) refl
+    where
+      settles : 1 ≤ x → x ≤ I .variables → (o : Option Branch) → Contradiction x b o → OnGo (Stepped I k b (C x)) (settled o)
+      settles lo hi none c = unfold settled in tt
+      settles lo hi (some b′) c = unfold settled in (contradicted x d lo hi c)
+
+      by : (t : Bool) → (leb 1 x && leb x (I .variables)) ≡ t →
+          OnGo (Stepped I k b (C x)) (elim t as (λ _. Step) [ true ↦ settled (contradict x b) | false ↦ stop 16 ])
+      by true e =
+          let r = and-eq-true-iff (leb 1 x) (leb x (I .variables)) .0 e in
+          settles (leb-true 1 x (r .0)) (leb-true x (I .variables) (r .1)) (contradict x b) (contradiction x b)
+      by false e = tt
+
+  -- what a record did
+  pub stepped : (r : Record) → OnGo (Stepped I k b r) (step I k r b)
+  unfolding step closing
+  stepped (E i) = by (b .dead) refl
+    where
+      by : (t : Bool) → b .dead ≡ t → OnGo (Stepped I k b (E i)) (elim t as (λ _. Step) [ true ↦ stop 17 | false ↦ extending i b ])
+      by true d = tt
+      by false d = extending-is i d
+  stepped (C x) = by (b .dead) refl
+    where
+      by : (t : Bool) → b .dead ≡ t → OnGo (Stepped I k b (C x)) (elim t as (λ _. Step) [ true ↦ stop 17 | false ↦ contradicting I x b ])
+      by true d = tt
+      by false d = contradicting-is x d
+  stepped Q = by (closable k b) refl
+    where
+      by : (t : Bool) → closable k b ≡ t → OnGo (Stepped I k b Q) (elim t as (λ _. Step) [ true ↦ go [] | false ↦ stop 18 ])
+      by true e = closed e
+      by false e = tt
+
+  -- on a branch that is not dead
+  alive : (s : Step) → b .dead ≡ false → elim (b .dead) as (λ _. Step) [ true ↦ stop 17 | false ↦ s ] ≡ s
+  alive s d = by (b .dead) d
+    where
+      by : (t : Bool) → t ≡ false → elim t as (λ _. Step) [ true ↦ stop 17 | false ↦ s ] ≡ s
+      by true e = clash refl e
+      by false e = refl
+
+  pub step-contradicts : (x : ℕ) → b .dead ≡ false → 1 ≤ x → x ≤ I .variables → step I k (C x) b ≡ settled (contradict x b)
+  unfolding step contradicting
+  step-contradicts x d lo hi = alive (contradicting I x b) d ∙ rw (le-leb 1 x lo, le-leb x (I .variables) hi, contradicting)
+
+  pub step-extends : (i : ℕ) (c : Clause) → b .dead ≡ false → clauseAt (b .rules) i ≡ some c → step I k (E i) b ≡ offered (extend b i c)
+  unfolding step extending
+  step-extends i c d e = alive (extending i b) d ∙ rw (e, extending)
