@@ -8,5 +8,6 @@ pub mod Extension
 pub mod Contradiction
 pub mod Root
 pub mod Walked
+pub mod Feasible
 pub mod Sound
 pub mod Written

@@ -1,1 +1,3 @@
 pub mod RoundTrip
+pub mod Sound
+pub mod Determined

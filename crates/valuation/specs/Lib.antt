@@ -1,3 +1,4 @@
 pub mod Value
 pub mod Better
 pub mod Examples
+pub mod Theorems

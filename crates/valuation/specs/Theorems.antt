@@ -1,0 +1,2 @@
+-- Laws about the definitions of this crate, for the layers above.
+pub mod Value
