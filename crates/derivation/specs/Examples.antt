@@ -104,6 +104,36 @@ examples-hold : map checkTells table ≡ map expected table
 unfolding table row M N E C Q minimum infeasible checkTells expected
 examples-hold = refl
 
+-- The refusals that the fourteen don't show, and their order: text, claim, assignment, records.
+further : List Row
+further =
+    row "x" [] [] (refused 2 0) ∷
+    row "h 1 0" (2 ∷ []) [] (refused 11 0) ∷
+    row "h 1 0" [] (Q ++ M 0) (refused 11 0) ∷
+    row "" [] (0x4D ∷ 0 ∷ 0 ∷ 0 ∷ 0 ∷ 0 ∷ 0 ∷ 0 ∷ []) (refused 11 0) ∷
+    row "h 1 0" (2 ∷ 1 ∷ []) (M 0) (refused 9 0) ∷
+    row "h 1 2 0" (1 ∷ 2 ∷ []) (M 0) (refused 10 1) ∷
+    row "1 1 0/h -1 0/h -1 0" (1 ∷ []) (M 9) (refused 12 2) ∷
+    row "2 1 0" (0 ∷ []) (M 1 ++ E 7) (refused 13 0) ∷
+    row "" [] (M 0 ++ M 0) (refused 14 9) ∷
+    row "" [] (M 0 ++ N) (refused 14 9) ∷
+    row "" [] (M 0 ++ 0x45 ∷ 0 ∷ []) (refused 14 9) ∷
+    row "h 0" [] (N ++ 0x00 ∷ []) (refused 14 1) ∷
+    row "h 0" [] (N ++ E 0) (refused 17 1) ∷
+    row "h 0" [] (N ++ C 0) (refused 17 1) ∷
+    row "h 0" [] (N ++ Q ++ 0x00 ∷ []) (refused 20 2) ∷
+    row "h 1 0" [] (N ++ E 1) (refused 15 1) ∷
+    row "h 1 2 0" [] (N ++ E 0) (refused 15 1) ∷
+    row "h 1 2 0" [] (N ++ E 2) (refused 15 1) ∷
+    row "h 1 2 0" [] (N ++ E 1 ++ E 1) (refused 15 4) ∷
+    row "h 1 0" [] (N ++ C 0) (refused 16 1) ∷
+    row "h 1 0" [] (N ++ C 2) (refused 16 1) ∷
+    row "h 1 0" [] (N ++ Q) (refused 18 1) ∷ []
+
+further-hold : map checkTells further ≡ map expected further
+unfolding further row M N E C Q checkTells expected
+further-hold = refl
+
 -- Write on the sheet pair: for 00 01 the twenty bytes, where there is room for them; with a byte less, 21 with the 19 bytes
 -- written before the last record; for 01 00, with room enough, 22 and found 00 01.
 twenty : List ℕ
