@@ -8,6 +8,5 @@ pub mod Extension
 pub mod Contradiction
 pub mod Root
 pub mod Walked
-pub mod Feasible
 pub mod Sound
 pub mod Written
