@@ -10,3 +10,4 @@ pub mod Root
 pub mod Walked
 pub mod Sound
 pub mod Written
+pub mod Stuck

@@ -37,6 +37,10 @@ module _ {A : Type 0} where
   every-append P [] ys h k = k
   every-append P (x ∷ xs) ys h k = (h .0, every-append P xs ys (h .1) k)
 
+  pub every-split : (P : A → Type 0) (xs ys : List A) → Every P (xs ++ ys) → Every P xs × Every P ys
+  every-split P [] ys h = (tt, h)
+  every-split P (x ∷ xs) ys h = let r = every-split P xs ys (h .1) in ((h .0, r .0), r .1)
+
   pub every-weaken : {P Q : A → Type 0} → ((x : A) → P x → Q x) → (xs : List A) → Every P xs → Every Q xs
   every-weaken f [] h = tt
   every-weaken f (x ∷ xs) h = (f x (h .0), every-weaken f xs (h .1))
