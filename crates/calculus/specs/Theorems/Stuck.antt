@@ -15,7 +15,7 @@ use Rattle.instance.specs.declared.answers.Claim.{Claim}
 use Rattle.instance.specs.declared.answers.Claim.the-variants.{Minimum, Infeasible}
 use Rattle.calculus.specs.declared.Record.{Record}
 use Rattle.calculus.specs.declared.Record.the-variants.{E, C, Q}
-use Rattle.calculus.specs.Branch.{Branch, put, several, numbered, spent, disjuncts, unless, extendBy, extend, contradict, root}
+use Rattle.calculus.specs.Branch.{Branch, several, numbered, spent, extend, contradict, root}
 use Rattle.calculus.specs.Claims.{Below, Refutes}
 use Rattle.calculus.specs.Derivation.{Step, stop, go, closable, closing, offered, settled, step}
 use Rattle.calculus.specs.Writing.{from, candidates, Move, first, Draft, wrote, noRoom, stuck, also, writeFrom, found}
@@ -27,10 +27,11 @@ use Rattle.calculus.specs.Theorems.Steps.{
   noWeight,
   noPair,
   contradiction,
-  Disjunction,
+  Extension,
+  over,
   short,
-  both,
-  disjunction,
+  twofold,
+  extension,
   Stepped,
   step-contradicts,
   step-extends,
@@ -170,9 +171,9 @@ module _ (H : ℕ) (I : Problem) (k : Claim) (b : Branch) (s : Stuck I k b) (w :
       none-live (neg x) h = unfold holds variableOf in (quiet H b x (s .no-contradiction x (h .0) (h .1)) .1)
 
   -- a clause that can't be extended is spent or a tautology
-  free : (i : ℕ) (c : Clause) → Whole (I .variables) c → extend b i c ≡ none → charge H (found b) c ≡ 0
-  unfolding extend charge
-  free i c h e = by (spent (c .weight)) refl (disjuncts (c .body)) (disjunction (c .body)) e
+  free : (i : ℕ) (c : Clause) → Whole (I .variables) c → Extension b i c none → charge H (found b) c ≡ 0
+  unfolding charge
+  free i c h e = by e
     where
       weightless : c .weight ≡ soft 0 → due (broken (found b) (c .body)) (toll H (c .weight)) ≡ 0
       weightless e = rw e (unfold toll in (due-zero (broken (found b) (c .body))))
@@ -182,18 +183,13 @@ module _ (H : ℕ) (I : Problem) (k : Claim) (b : Branch) (s : Stuck I k b) (w :
       is-spent (soft zero) e = refl
       is-spent (soft (suc w)) e = unfold spent in (clash e refl)
 
-      whole : (p : Body) → c .body ≡ p → Disjunction p none → due (broken (found b) (c .body)) (toll H (c .weight)) ≡ 0
-      whole p q (short ls u) = weightless (h .short (rw q (unfold numbered in u)))
-      whole p q (both ls t) = rw q (unfold broken in (rw (tautology-holds (found b) ls t) (unfold due in refl)))
-
-      by : (t : Bool) → spent (c .weight) ≡ t → (o : Option (List Body)) → Disjunction (c .body) o →
-          unless t (extendBy (c .weight) o (put i (soft 0) b)) ≡ none → due (broken (found b) (c .body)) (toll H (c .weight)) ≡ 0
-      by true u o d e = weightless (is-spent (c .weight) u)
-      by false u none d e = whole (c .body) refl d
-      by false u (some ps) d e = unfold unless extendBy in (absurd (let z : _≡_ {A = ℕ} 0 1 = cc in omega arith))
+      by : Extension b i c none → due (broken (found b) (c .body)) (toll H (c .weight)) ≡ 0
+      by (over u) = weightless (is-spent (c .weight) u)
+      by (short ls q u) = weightless (h .short (rw q (unfold numbered in u)))
+      by (twofold ls q t) = rw q (unfold broken in (rw (tautology-holds (found b) ls t) (unfold due in refl)))
 
   found-bill : bill H (found b) (b .rules) ≡ 0
-  found-bill = sum-zero (charge H (found b)) (b .rules) (every-of (λ c. charge H (found b) c ≡ 0) (b .rules) (λ i c e. free i c (every-at (Whole (I .variables)) (b .rules) i c w e) (s .no-extension i c e)))
+  found-bill = sum-zero (charge H (found b)) (b .rules) (every-of (λ c. charge H (found b) c ≡ 0) (b .rules) (λ i c e. free i c (every-at (Whole (I .variables)) (b .rules) i c w e) (subst (Extension b i c) (s .no-extension i c e) (extension b i c))))
 
   found-raw : raw H (I .variables) (found b) b ≡ b .booked
   unfolding raw
