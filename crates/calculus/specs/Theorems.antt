@@ -11,3 +11,7 @@ pub mod Walked
 pub mod Sound
 pub mod Written
 pub mod Stuck
+pub mod Unchanged
+pub mod Numbers
+pub mod Leaves
+pub mod Potential
