@@ -15,3 +15,4 @@ pub mod Unchanged
 pub mod Numbers
 pub mod Leaves
 pub mod Potential
+pub mod Length

@@ -14,7 +14,7 @@ use Rattle.calculus.specs.Theorems.Steps.{single, Extension, opens}
 use Rattle.calculus.specs.Theorems.Worth.{toll, charge, raw, worth, least, raw-put, adds-gain}
 use Rattle.calculus.specs.Theorems.Fair.{Whole, Sane, Fair, sane-gain, sane-put}
 
-unfoldable allBroken : Assignment → List Body → Bool
+allBroken : Assignment → List Body → Bool
 allBroken σ [] = true
 allBroken σ (p ∷ ps) = broken σ p && allBroken σ ps
 

@@ -39,14 +39,14 @@ use Rattle.calculus.specs.Theorems.Root.{Covered}
 use Rattle.calculus.specs.Theorems.Steps.{Contradiction, bothHard, oneHard, bothSoft}
 
 -- 1 for a weight
-unfoldable positive : ℕ → ℕ
+positive : ℕ → ℕ
 positive zero = 0
 positive (suc v) = 1
 
-unfoldable weighted : ℕ → Branch → ℕ
+weighted : ℕ → Branch → ℕ
 weighted n b = litSum n (λ k. positive (b .weight k))
 
-unfoldable marks : ℕ → Branch → ℕ
+marks : ℕ → Branch → ℕ
 marks n b = litSum n (λ k. due (b .marked k) 1)
 
 pub potential : ℕ → Branch → ℕ
