@@ -16,3 +16,4 @@ pub mod Numbers
 pub mod Leaves
 pub mod Potential
 pub mod Length
+pub mod Paths

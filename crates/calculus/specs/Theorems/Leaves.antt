@@ -1,8 +1,8 @@
 -- The clauses that are not spent: how many there are, and how many leaves their extensions can have. At the root that is at
 -- most P.
-use Prim.Native.Nat.{ℕ, _+_, _*_, _≤_}
+use Prim.Native.Nat.{ℕ, suc, _+_, _*_, _≤_}
 use mathlib.Core.Bool.{Bool, true, false, not}
-use mathlib.Core.List.{List, [], _∷_}
+use mathlib.Core.List.{List, [], _∷_, map}
 use mathlib.Core.Option.{some}
 use mathlib.Core.Path.{_≡_, refl, ap, sym, _∙_}
 use native.Mathlib.Nat.{add-left-comm, zero-add, mul-left-comm, one-mul, mul-le-mul-left, mul-le-mul-right, one-le-mul}
@@ -10,8 +10,9 @@ use native.Mathlib.Omega.{arith}
 use lib.ListN.{length}
 use Rattle.instance.specs.Clause.{Literal, Weight, soft, Body, clause, Clause, tautology, clauseAt}
 use Rattle.calculus.specs.Bounds.{branching, countOf, productOf}
-use Rattle.calculus.specs.Branch.{Branch, blank, withRules, keep, putAt, put, unitOf, nothing, gain, several, numbered, enter, rootFrom, root, spent}
+use Rattle.calculus.specs.Branch.{Branch, blank, withRules, keep, putAt, put, unitOf, nothing, gain, several, numbered, enter, rootFrom, root, spent, branches}
 use Rattle.calculus.specs.Theorems.Sum.{fold, fold-snoc, fold-put}
+use Rattle.calculus.specs.Theorems.Steps.{single, Extension, opens}
 use Rattle.calculus.specs.Theorems.Unchanged.{nothing-leaves, unit-leaves}
 
 -- what a clause counts, and z where it is spent
@@ -56,7 +57,7 @@ module _ (b : Branch) (i : ℕ) (c : Clause) (e : clauseAt (b .rules) i ≡ some
   pub remaining-put : 1 + remaining ((put i (soft 0) b) .rules) ≡ remaining (b .rules)
   remaining-put = spent-put _+_ add-left-comm 0 zero-add (λ p. 1) b i c e u
 
-  pub leaves-put : countOf (c .body) * leaves ((put i (soft 0) b) .rules) ≡ leaves (b .rules)
+  leaves-put : countOf (c .body) * leaves ((put i (soft 0) b) .rules) ≡ leaves (b .rules)
   leaves-put = spent-put _*_ mul-left-comm 1 one-mul countOf b i c e u
 
 pub remaining-spent : (p : Body) (b : Branch) → remaining ((keep (soft 0) p b) .rules) ≡ remaining (b .rules)
@@ -75,7 +76,7 @@ leaves-spent : (p : Body) (b : Branch) → leaves ((keep (soft 0) p b) .rules) �
 leaves-spent = spent-keep _*_ mul-left-comm 1 one-mul countOf
 
 -- ---- counts of literals
-pub countOf-several : (l k : Literal) (ks : List Literal) → tautology (l ∷ k ∷ ks) ≡ false → countOf (clause (l ∷ k ∷ ks)) ≡ length (l ∷ k ∷ ks)
+countOf-several : (l k : Literal) (ks : List Literal) → tautology (l ∷ k ∷ ks) ≡ false → countOf (clause (l ∷ k ∷ ks)) ≡ length (l ∷ k ∷ ks)
 unfolding countOf branching several
 countOf-several l k ks e = rw (e, countOf)
 
@@ -88,6 +89,29 @@ countOf-some (clause (l ∷ k ∷ ks)) = by (not (tautology (l ∷ k ∷ ks)))
     by : (t : Bool) → 1 ≤ elim t as (λ _. ℕ) [ true ↦ length (l ∷ k ∷ ks) | false ↦ 1 ]
     by true = omega arith
     by false = omega arith
+
+-- an extension opens two branches or more, as many as the clause's count
+pub record Parted (b : Branch) (i : ℕ) (bs : List Branch) : Type 0 where
+  pub two : 2 ≤ length bs
+  pub shared : length bs * leaves ((put i (soft 0) b) .rules) ≡ leaves (b .rules)
+
+pub extension-parts : (b : Branch) (i : ℕ) (c : Clause) (bs : List Branch) → clauseAt (b .rules) i ≡ some c → Extension b i c (some bs) → Parted b i bs
+extension-parts b i c bs e (opens l k ks q t u) = record {
+  two = rw (branches-count (l ∷ k ∷ ks)) (omega arith);
+  shared = rw (branches-count (l ∷ k ∷ ks)) (rw (q, countOf-several l k ks t) at (leaves-put b i c e u));
+}
+  where
+    branches-count : (ls : List Literal) → length (branches (c .weight) (map single ls) (put i (soft 0) b)) ≡ length ls
+    branches-count [] = unfold branches in refl
+    branches-count (l ∷ ls) = one-more (branches-count ls)
+      where
+        one-more : length (branches (c .weight) (map single ls) (put i (soft 0) b)) ≡ length ls →
+            length (branches (c .weight) (map single (l ∷ ls)) (put i (soft 0) b)) ≡ length (l ∷ ls)
+        one-more h = unfold branches in (ap suc h)
+
+pub extension-remaining : (b : Branch) (i : ℕ) (c : Clause) (bs : List Branch) → clauseAt (b .rules) i ≡ some c → Extension b i c (some bs) →
+    1 + remaining ((put i (soft 0) b) .rules) ≡ remaining (b .rules)
+extension-remaining b i c bs e (opens l k ks q t u) = remaining-put b i c e u
 
 pub leaves-some : (cs : List Clause) → 1 ≤ leaves cs
 unfolding fold unspent

@@ -4,35 +4,35 @@ use Prim.Native.Nat.{ℕ, suc, _+_, _-_, _*_, _<_, _≤_}
 use mathlib.Core.Bool.{true, false}
 use mathlib.Core.List.{List, [], _∷_, _++_, map}
 use mathlib.Core.Option.{some}
-use mathlib.Core.Path.{_≡_, refl, ap, subst}
+use mathlib.Core.Path.{_≡_, refl, ap}
 use native.Mathlib.Nat.{mul-le-mul, mul-le-mul-left, mul-le-mul-right}
 use native.Mathlib.Omega.{arith}
 use lib.ListN.{length}
-use Rattle.instance.specs.Clause.{Literal, Weight, soft, Body, clause, Clause, Problem, clauseAt}
+use Rattle.instance.specs.Clause.{soft, Clause, Problem, clauseAt}
 use Rattle.instance.specs.Meaning.{Assignment}
-use Rattle.instance.specs.Within.{Every, In, InBody, Fits}
+use Rattle.instance.specs.Within.{Every, Fits}
 use Rattle.instance.specs.declared.answers.Claim.{Claim}
 use Rattle.instance.specs.declared.answers.Claim.the-variants.{Minimum, Infeasible}
 use Rattle.instance.specs.declared.answers.Checked.the-variants.{Accepted}
 use Rattle.calculus.specs.declared.Record.{Record}
 use Rattle.calculus.specs.declared.Record.the-variants.{E, C, Q}
-use Rattle.calculus.specs.Bounds.{countOf, productOf, bytesOf, InRange}
-use Rattle.calculus.specs.Branch.{Branch, put, unitOf, gain, branches, root, spent}
+use Rattle.calculus.specs.Bounds.{productOf, bytesOf, InRange}
+use Rattle.calculus.specs.Branch.{Branch, put, root}
 use Rattle.calculus.specs.Claims.{True, Refutes}
 use Rattle.calculus.specs.Derivation.{whole, size, walk}
 use Rattle.calculus.specs.Writing.{Move, Draft, wrote, noRoom, stuck, also, writeFrom, found}
-use Rattle.calculus.specs.Theorems.Basics.{clash, every-append, every-at}
+use Rattle.calculus.specs.Theorems.Basics.{clash, every-append, every-weaken}
 use Rattle.calculus.specs.Theorems.Sum.{fold, sumOf, sum-append}
-use Rattle.calculus.specs.Theorems.Fair.{Whole, Sane}
-use Rattle.calculus.specs.Theorems.Leaves.{leaves, leaves-put, leaves-some, countOf-several, root-leaves}
+use Rattle.calculus.specs.Theorems.Fair.{Sane}
+use Rattle.calculus.specs.Theorems.Leaves.{leaves, Parted, extension-parts, leaves-some, root-leaves}
 use Rattle.calculus.specs.Theorems.Numbers.{write-range}
-use Rattle.calculus.specs.Theorems.Potential.{potential, contradict-potential, unit-potential, put-potential, root-potential}
+use Rattle.calculus.specs.Theorems.Potential.{potential, contradict-potential, extend-potential, root-potential}
 use Rattle.calculus.specs.Theorems.Root.{sane-root}
 use Rattle.calculus.specs.Theorems.Sound.{stepped-sane}
-use Rattle.calculus.specs.Theorems.Steps.{single, Extension, opens, Stepped, closed, contradicted, extended}
+use Rattle.calculus.specs.Theorems.Steps.{Extension, Stepped, closed, contradicted, extended}
 use Rattle.calculus.specs.Theorems.Stuck.{stuck-refutes}
-use Rattle.calculus.specs.Theorems.Unchanged.{contradiction-leaves, unit-leaves}
-use Rattle.calculus.specs.Theorems.Written.{write-kept, wrote-kept, write-accepted}
+use Rattle.calculus.specs.Theorems.Unchanged.{Gained, contradiction-leaves, extension-leaves}
+use Rattle.calculus.specs.Theorems.Written.{size-some, write-kept, wrote-kept, write-accepted}
 
 -- A record's fee: a for E and C, 1 for Q. With a = 1 fees count the records, with a = 3 the bytes.
 fee : ℕ → Record → ℕ
@@ -69,43 +69,33 @@ module _ (a n : ℕ) where
             mul-le-mul-left (leaves (b .rules)) (mul-le-mul-left a l),
           ))
 
-  -- the branches of an extension, each from b with its clause spent
-  branches-fees : (w : Weight) (b : Branch) (v : ℕ) → 1 + potential n b ≡ v → (ls : List Literal) → Every (In n) ls →
-      sumOf (fees a n) (branches w (map single ls) b) + length ls * a ≤ length ls * (leaves (b .rules) * (a * v + a + 1))
-  unfolding branches gain fold
-  branches-fees w b v e [] h = omega arith
-  branches-fees w b v e (l ∷ ls) h = omega (arith, fees-gross (unitOf w l b), one, branches-fees w b v e ls (h .1))
+  -- branches that have the same leaves, and no more potential than v
+  branches-fees : (m v : ℕ) (bs : List Branch) → Every (λ d. leaves (d .rules) ≡ m) bs → Every (λ d. potential n d ≤ v) bs →
+      sumOf (fees a n) bs + length bs * a ≤ length bs * (m * (a * v + a + 1))
+  unfolding fold
+  branches-fees m v [] h l = omega arith
+  branches-fees m v (d ∷ ds) h l = omega (arith, fees-gross d, one, branches-fees m v ds (h .1) (l .1))
     where
-      one : gross a n (unitOf w l b) ≤ leaves (b .rules) * (a * v + a + 1)
-      one = unfold gross in (
-          omega (
-            arith,
-            ap (λ cs. leaves cs * (a * potential n (unitOf w l b) + a + 1)) ((unit-leaves w l b) .rules),
-            mul-le-mul-left (leaves (b .rules)) (mul-le-mul-left a (more (unit-potential n w l b (h .0)))),
-          ))
-        where
-          more : potential n (unitOf w l b) ≤ potential n b + 1 → potential n (unitOf w l b) ≤ v
-          more q = omega arith
+      one : gross a n d ≤ m * (a * v + a + 1)
+      one = unfold gross in (omega (arith, ap (λ u. u * (a * potential n d + a + 1)) (h .0), mul-le-mul-left m (mul-le-mul-left a (l .0))))
 
   extend-fees : (b : Branch) (i : ℕ) (c : Clause) (bs : List Branch) → Sane n b → clauseAt (b .rules) i ≡ some c → Extension b i c (some bs) →
       a + sumOf (fees a n) bs ≤ fees a n b
-  extend-fees b i c bs s e (opens l k ks q t u) =
-      omega (arith, fees-gross b, branches-fees (c .weight) (put i (soft 0) b) (potential n b) (put-potential n b i c e u) (l ∷ k ∷ ks) parts, whole, two)
+  extend-fees b i c bs s e x =
+      omega (
+        arith,
+        fees-gross b,
+        branches-fees (leaves ((put i (soft 0) b) .rules)) (potential n b) bs
+        (every-weaken (λ d (g : Gained (put i (soft 0) b) d). ap leaves (g .rules)) bs (extension-leaves b i c bs x)) (extend-potential n b i c bs s e x),
+        whole,
+        mul-le-mul-right a (parts .two),
+      )
     where
-      X : ℕ
-      X = a * potential n b + a + 1
+      parts : Parted b i bs
+      parts = extension-parts b i c bs e x
 
-      parts : Every (In n) (l ∷ k ∷ ks)
-      parts = rw q at ((every-at (Whole n) (b .rules) i c s e) .within)
-
-      split : length (l ∷ k ∷ ks) * leaves ((put i (soft 0) b) .rules) ≡ leaves (b .rules)
-      split = rw (q, countOf-several l k ks t) at (leaves-put b i c e u)
-
-      whole : gross a n b ≡ length (l ∷ k ∷ ks) * (leaves ((put i (soft 0) b) .rules) * X)
-      whole = unfold gross in (rw (← split) (omega arith))
-
-      two : 2 * a ≤ length (l ∷ k ∷ ks) * a
-      two = mul-le-mul-right a (omega arith)
+      whole : gross a n b ≡ length bs * (leaves ((put i (soft 0) b) .rules) * (a * potential n b + a + 1))
+      whole = unfold gross in (rw (← (parts .shared)) (omega arith))
 
 -- a record costs its fee at least
 stepped-fees : (a : ℕ) (I : Problem) (k : Claim) (r : Record) (b : Branch) (new : List Branch) → Sane (I .variables) b → Stepped I k b r new →
@@ -160,12 +150,6 @@ module _ (I : Problem) (k : Claim) (room : ℕ) where
   fee-size (C x) = refl
   fee-size Q = refl
 
-  some-byte : (r : Record) → 1 ≤ size r
-  unfolding size
-  some-byte (E i) = omega arith
-  some-byte (C x) = omega arith
-  some-byte Q = omega arith
-
   write-has-room : (fuel at : ℕ) (bs : List Branch) → SaneAll bs → at + feesAll 3 bs ≤ room → room < at + fuel → HasRoom (writeFrom I k fuel room at bs)
   write-has-room fuel at bs s l u = write-kept I k room (λ fuel at bs. SaneAll bs × (at + feesAll 3 bs ≤ room) × (room < at + fuel)) (λ at bs. HasRoom) (record {
     end = λ fuel at h. tt;
@@ -175,7 +159,7 @@ module _ (I : Problem) (k : Claim) (room : ℕ) where
     next = λ fuel at b bs m h d l. (
       next-sane b bs (m .chosen) (m .places) (h .0) (d .move .did),
       omega (arith, next-fees 3 b bs (m .chosen) (m .places) (h .0) (d .move .did), fee-size (m .chosen)),
-      omega (arith, some-byte (m .chosen)),
+      omega (arith, size-some (m .chosen)),
     );
     more = λ fuel at b bs m h d l. one-more (m .chosen);
   }) fuel at bs (s, l, u)

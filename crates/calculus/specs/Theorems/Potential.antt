@@ -2,14 +2,14 @@
 -- clauses that are not spent. At the root that is at most K.
 use Prim.Native.Nat.{ℕ, zero, suc, _+_, _-_, _<_, _≤_, min}
 use mathlib.Core.Bool.{Bool, true, false, not}
-use mathlib.Core.List.{List, [], _∷_, _++_}
+use mathlib.Core.List.{List, [], _∷_, _++_, map}
 use mathlib.Core.Option.{some}
 use mathlib.Core.Path.{_≡_, refl}
 use native.Mathlib.Decide.{decLe}
 use native.Mathlib.Omega.{arith}
 use lib.ListN.{length}
 use Rattle.instance.specs.Clause.{Literal, pos, neg, Weight, hard, soft, Body, clause, Clause, variableOf, same, clauseAt}
-use Rattle.instance.specs.Within.{In, InBody}
+use Rattle.instance.specs.Within.{Every, In, InBody}
 use Rattle.calculus.specs.Branch.{
   Branch,
   blank,
@@ -30,13 +30,15 @@ use Rattle.calculus.specs.Branch.{
   rootFrom,
   root,
   spent,
+  branches,
 }
-use Rattle.calculus.specs.Theorems.Basics.{due}
+use Rattle.calculus.specs.Theorems.Basics.{due, every-at}
 use Rattle.calculus.specs.Theorems.Sum.{fold}
 use Rattle.calculus.specs.Theorems.Literals.{litSum, litSum-zero, litSum-ge, litSum-weight, litSum-mark}
+use Rattle.calculus.specs.Theorems.Fair.{Whole, Sane}
 use Rattle.calculus.specs.Theorems.Leaves.{remaining, remaining-put, remaining-keep, remaining-spent}
 use Rattle.calculus.specs.Theorems.Root.{Covered}
-use Rattle.calculus.specs.Theorems.Steps.{Contradiction, bothHard, oneHard, bothSoft}
+use Rattle.calculus.specs.Theorems.Steps.{single, Contradiction, bothHard, oneHard, bothSoft, Extension, opens}
 
 -- 1 for a weight
 positive : ℕ → ℕ
@@ -88,7 +90,7 @@ module _ (n : ℕ) where
   rules-potential cs b = omega arith
 
   -- a unit brings one at most
-  pub unit-potential : (w : Weight) (l : Literal) (b : Branch) → In n l → potential n (unitOf w l b) ≤ potential n b + 1
+  unit-potential : (w : Weight) (l : Literal) (b : Branch) → In n l → potential n (unitOf w l b) ≤ potential n b + 1
   unfolding unitOf potential
   unit-potential hard l b h = unfold mark weighted in (by (not (b .dead)) (omega (arith, more)))
     where
@@ -126,10 +128,22 @@ module _ (n : ℕ) where
           rw (← e) at (positive-rest (b .weight (pos x)) (b .weight (neg x))),
         ))
 
-  -- a clause that is spent takes one away, before its literal's unit comes
-  pub put-potential : (b : Branch) (i : ℕ) (c : Clause) → clauseAt (b .rules) i ≡ some c → spent (c .weight) ≡ false → 1 + potential n (put i (soft 0) b) ≡ potential n b
+  -- an extension takes a clause away and brings a unit
+  put-potential : (b : Branch) (i : ℕ) (c : Clause) → clauseAt (b .rules) i ≡ some c → spent (c .weight) ≡ false → 1 + potential n (put i (soft 0) b) ≡ potential n b
   unfolding put withRules
   put-potential b i c e u = omega (arith, rules-potential (putAt (b .rules) i (soft 0)) b, remaining-put b i c e u)
+
+  branches-potential : (w : Weight) (b : Branch) (v : ℕ) → 1 + potential n b ≡ v → (ls : List Literal) → Every (In n) ls →
+      Every (λ d. potential n d ≤ v) (branches w (map single ls) b)
+  unfolding branches gain
+  branches-potential w b v e [] h = tt
+  branches-potential w b v e (l ∷ ls) h = (omega (arith, unit-potential w l b (h .0)), branches-potential w b v e ls (h .1))
+
+  pub extend-potential : (b : Branch) (i : ℕ) (c : Clause) (bs : List Branch) → Sane n b → clauseAt (b .rules) i ≡ some c → Extension b i c (some bs) →
+      Every (λ d. potential n d ≤ potential n b) bs
+  extend-potential b i c bs s e (opens l k ks q t u) =
+      branches-potential (c .weight) (put i (soft 0) b) (potential n b) (put-potential b i c e u) (l ∷ k ∷ ks)
+      (rw q at ((every-at (Whole n) (b .rules) i c s e) .within))
 
   -- ---- the root
   keep-potential : (w : Weight) (p : Body) (b : Branch) → potential n (keep w p b) + remaining (b .rules) ≡ potential n b + remaining ((keep w p b) .rules)
