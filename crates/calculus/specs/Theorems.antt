@@ -17,3 +17,7 @@ pub mod Leaves
 pub mod Potential
 pub mod Length
 pub mod Paths
+pub mod Mass
+pub mod Agree
+pub mod Words
+pub mod Broken
