@@ -10,3 +10,14 @@ pub mod Root
 pub mod Walked
 pub mod Sound
 pub mod Written
+pub mod Stuck
+pub mod Unchanged
+pub mod Numbers
+pub mod Leaves
+pub mod Potential
+pub mod Length
+pub mod Paths
+pub mod Mass
+pub mod Agree
+pub mod Words
+pub mod Broken

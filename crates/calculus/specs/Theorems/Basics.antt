@@ -1,7 +1,7 @@
 -- Small facts about tests and lists.
 use Prim.Native.Nat.{ℕ, zero, suc, _≤_}
 use mathlib.Core.Bool.{Bool, true, false, true≢false}
-use mathlib.Core.List.{List, [], _∷_, _++_}
+use mathlib.Core.List.{List, [], _∷_, _++_, List·Memᴰ as Among, List·Memᴰ·head, List·Memᴰ·tail}
 use mathlib.Core.Option.{Option, some, none, Option·some-injective, Option·none-ne-some}
 use mathlib.Core.Path.{_≡_, refl, sym, subst, _∙_}
 use native.Mathlib.Omega.{arith}
@@ -36,6 +36,18 @@ module _ {A : Type 0} where
   pub every-append : (P : A → Type 0) (xs ys : List A) → Every P xs → Every P ys → Every P (xs ++ ys)
   every-append P [] ys h k = k
   every-append P (x ∷ xs) ys h k = (h .0, every-append P xs ys (h .1) k)
+
+  pub every-split : (P : A → Type 0) (xs ys : List A) → Every P (xs ++ ys) → Every P xs × Every P ys
+  every-split P [] ys h = (tt, h)
+  every-split P (x ∷ xs) ys h = let r = every-split P xs ys (h .1) in ((h .0, r .0), r .1)
+
+  pub every-among : (P : A → Type 0) {x : A} (xs : List A) → Every P xs → Among x xs → P x
+  every-among P (y ∷ ys) h (List·Memᴰ·head e) = subst P (sym e) (h .0)
+  every-among P (y ∷ ys) h (List·Memᴰ·tail m) = every-among P ys (h .1) m
+
+  pub every-join : {P Q R : A → Type 0} → ((x : A) → P x → Q x → R x) → (xs : List A) → Every P xs → Every Q xs → Every R xs
+  every-join f [] h k = tt
+  every-join f (x ∷ xs) h k = (f x (h .0) (k .0), every-join f xs (h .1) (k .1))
 
   pub every-weaken : {P Q : A → Type 0} → ((x : A) → P x → Q x) → (xs : List A) → Every P xs → Every Q xs
   every-weaken f [] h = tt

@@ -10,11 +10,11 @@ use Rattle.instance.specs.Meaning.{Assignment, holds, falsified, broken}
 use Rattle.instance.specs.Within.{Every, In, InBody}
 use Rattle.calculus.specs.Branch.{Branch, put, gain, several, numbered, branches}
 use Rattle.calculus.specs.Theorems.Basics.{due, due-zero, every-at}
-use Rattle.calculus.specs.Theorems.Steps.{single, Disjunction, literals, short, both}
+use Rattle.calculus.specs.Theorems.Steps.{single, Extension, opens}
 use Rattle.calculus.specs.Theorems.Worth.{toll, charge, raw, worth, least, raw-put, adds-gain}
 use Rattle.calculus.specs.Theorems.Fair.{Whole, Sane, Fair, sane-gain, sane-put}
 
-unfoldable allBroken : Assignment → List Body → Bool
+allBroken : Assignment → List Body → Bool
 allBroken σ [] = true
 allBroken σ (p ∷ ps) = broken σ p && allBroken σ ps
 
@@ -47,22 +47,20 @@ module _ (H n : ℕ) where
   sane-branches w [] b h s = tt
   sane-branches w (p ∷ ps) b h s = (sane-gain n w p b (h .0) s, sane-branches w ps b (h .1) s)
 
-  pub extend-fair : (b : Branch) (i : ℕ) (c : Clause) (ps : List Body) → Sane n b → clauseAt (b .rules) i ≡ some c →
-      Disjunction (c .body) (some ps) → Fair H n b (branches (c .weight) ps (put i (soft 0) b))
-  extend-fair b i c ps s e d = by (c .body) ps refl d
+  pub extend-fair : (b : Branch) (i : ℕ) (c : Clause) (bs : List Branch) → Sane n b → clauseAt (b .rules) i ≡ some c →
+      Extension b i c (some bs) → Fair H n b bs
+  extend-fair b i c bs s e (opens l k ks q t u) = record {
+    even = λ σ. omega (arith, spread σ (c .weight) (single l) (map single (k ∷ ks)) (put i (soft 0) b) parts, spent-rule σ);
+    sane = sane-branches (c .weight) (map single (l ∷ k ∷ ks)) (put i (soft 0) b) parts
+        (sane-put n i c (soft 0) b e (rw q (unfold numbered several in refl)) s);
+  }
     where
-      spent-rule : (σ : Assignment) → raw H n σ (put i (soft 0) b) + charge H σ c ≡ raw H n σ b
-      spent-rule σ = unfold toll in (omega (arith, raw-put H n σ i c (soft 0) b e, due-zero (broken σ (c .body))))
+      parts : Every (InBody n) (map single (l ∷ k ∷ ks))
+      parts = singles-within n (l ∷ k ∷ ks) (rw q at ((every-at (Whole n) (b .rules) i c s e) .within))
 
-      by : (p : Body) (ps : List Body) → c .body ≡ p → Disjunction p (some ps) → Fair H n b (branches (c .weight) ps (put i (soft 0) b))
-      by p ps q (literals l k ks t) = record {
-        even = λ σ. omega (arith, spread σ (c .weight) (single l) (map single (k ∷ ks)) (put i (soft 0) b) parts, rw (whole σ) at (spent-rule σ));
-        sane = sane-branches (c .weight) (map single (l ∷ k ∷ ks)) (put i (soft 0) b) parts
-            (sane-put n i c (soft 0) b e (rw q (unfold numbered several in refl)) s);
-      }
+      -- what the clause came to, now that it is spent, is what its literals come to together
+      spent-rule : (σ : Assignment) → raw H n σ (put i (soft 0) b) + due (allBroken σ (map single (l ∷ k ∷ ks))) (toll H (c .weight)) ≡ raw H n σ b
+      spent-rule σ = unfold toll in (omega (arith, rw whole at (raw-put H n σ i c (soft 0) b e), due-zero (broken σ (c .body))))
         where
-          parts : Every (InBody n) (map single (l ∷ k ∷ ks))
-          parts = singles-within n (l ∷ k ∷ ks) (rw q at ((every-at (Whole n) (b .rules) i c s e) .within))
-
-          whole : (σ : Assignment) → charge H σ c ≡ due (allBroken σ (map single (l ∷ k ∷ ks))) (toll H (c .weight))
-          whole σ = unfold charge broken in (rw (q, singles-broken σ (l ∷ k ∷ ks)))
+          whole : charge H σ c ≡ due (allBroken σ (map single (l ∷ k ∷ ks))) (toll H (c .weight))
+          whole = unfold charge broken in (rw (q, singles-broken σ (l ∷ k ∷ ks)))

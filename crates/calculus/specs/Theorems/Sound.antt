@@ -54,7 +54,7 @@ module _ (I : Problem) where
     pub stepped-fair : (H : ℕ) → Caps k H → (r : Record) (b : Branch) (new : List Branch) → Sane n b → Stepped I k b r new → Fair H n b new
     stepped-fair H q r b new s (closed e) = record { even = λ σ. unfold least in (omega (arith, closes k H q b e σ)); sane = tt }
     stepped-fair H q r b new s (contradicted {b′ = b′} x d lo hi c) = contradict-fair H n x b b′ lo hi s c
-    stepped-fair H q r b new s (extended i c ps d e u p) = extend-fair H n b i c ps s e p
+    stepped-fair H q r b new s (extended i c d e x) = extend-fair H n b i c new s e x
 
     pub stepped-sane : (r : Record) (b : Branch) (new : List Branch) → Sane n b → Stepped I k b r new → Every (Sane n) new
     stepped-sane r b new s d = let c = some-cap k in (stepped-fair (c .0) (c .1) r b new s d) .sane

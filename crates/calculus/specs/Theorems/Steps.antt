@@ -3,7 +3,7 @@ use Prim.Native.Nat.{ℕ, _-_, _<_, _≤_, min}
 use mathlib.Core.Bool.{Bool, true, false, not, _&&_, and-eq-true-iff}
 use mathlib.Core.List.{List, [], _∷_, map}
 use mathlib.Core.Option.{Option, some, none}
-use mathlib.Core.Path.{_≡_, refl, _∙_}
+use mathlib.Core.Path.{_≡_, refl, subst, _∙_}
 use native.Mathlib.Omega.{arith}
 use lib.Dec.{leb, ltb}
 use borrow.Author.Tests.{leb-true, ltb-true, le-leb}
@@ -74,34 +74,37 @@ contradiction x b = by (b .marked (pos x)) refl (b .marked (neg x)) refl
     by false u true v = spends (pos x) refl v u
     by false u false v = cancels u v
 
--- ---- what an extension opens: a branch for each literal of two or more, or nothing
+-- ---- an extension of clause c, of number i: 01's case, and the three where the clause can't be extended
 abbrev pub single : Literal → Body
 single l = clause (l ∷ [])
 
-pub data Disjunction : Body → Option (List Body) → Type 0 where
-  literals : (l k : Literal) (ks : List Literal) → tautology (l ∷ k ∷ ks) ≡ false → Disjunction (clause (l ∷ k ∷ ks)) (some (map single (l ∷ k ∷ ks)))
-  short : (ls : List Literal) → several ls ≡ false → Disjunction (clause ls) none
-  both : (ls : List Literal) → tautology ls ≡ true → Disjunction (clause ls) none
+pub data Extension (b : Branch) (i : ℕ) (c : Clause) : Option (List Branch) → Type 0 where
+  opens : (l k : Literal) (ks : List Literal) → c .body ≡ clause (l ∷ k ∷ ks) → tautology (l ∷ k ∷ ks) ≡ false → spent (c .weight) ≡ false →
+      Extension b i c (some (branches (c .weight) (map single (l ∷ k ∷ ks)) (put i (soft 0) b)))
+  over : spent (c .weight) ≡ true → Extension b i c none
+  short : (ls : List Literal) → c .body ≡ clause ls → several ls ≡ false → Extension b i c none
+  twofold : (ls : List Literal) → c .body ≡ clause ls → tautology ls ≡ true → Extension b i c none
 
-pub disjunction : (p : Body) → Disjunction p (disjuncts p)
-unfolding disjuncts several
-disjunction (clause []) = short [] (unfold several in refl)
-disjunction (clause (l ∷ [])) = short (l ∷ []) (unfold several in refl)
-disjunction (clause (l ∷ k ∷ ks)) = by (tautology (l ∷ k ∷ ks)) refl
+pub extension : (b : Branch) (i : ℕ) (c : Clause) → Extension b i c (extend b i c)
+unfolding extend unless extendBy disjuncts several
+extension b i c = by (spent (c .weight)) refl (c .body) refl
   where
-    ls : List Literal
-    ls = l ∷ k ∷ ks
-
-    by : (t : Bool) → tautology ls ≡ t → Disjunction (clause ls) (elim (not t) as (λ _. Option (List Body)) [ true ↦ some (map single ls) | false ↦ none ])
-    by true e = both ls e
-    by false e = literals l k ks e
+    by : (t : Bool) → spent (c .weight) ≡ t → (p : Body) → c .body ≡ p → Extension b i c (unless t (extendBy (c .weight) (disjuncts p) (put i (soft 0) b)))
+    by true u p q = over u
+    by false u (clause []) q = short [] q refl
+    by false u (clause (l ∷ [])) q = short (l ∷ []) q refl
+    by false u (clause (l ∷ k ∷ ks)) q = test (tautology (l ∷ k ∷ ks)) refl
+      where
+        test : (t : Bool) → tautology (l ∷ k ∷ ks) ≡ t →
+            Extension b i c (extendBy (c .weight) (elim (not t) as (λ _. Option (List Body)) [ true ↦ some (map single (l ∷ k ∷ ks)) | false ↦ none ]) (put i (soft 0) b))
+        test true e = twofold (l ∷ k ∷ ks) q e
+        test false e = opens l k ks q e u
 
 -- ---- a record that is not refused
 pub data Stepped (I : Problem) (k : Claim) (b : Branch) : Record → List Branch → Type 0 where
   closed : closable k b ≡ true → Stepped I k b Q []
   contradicted : {b′ : Branch} (x : ℕ) → b .dead ≡ false → 1 ≤ x → x ≤ I .variables → Contradiction x b (some b′) → Stepped I k b (C x) (b′ ∷ [])
-  extended : (i : ℕ) (c : Clause) (ps : List Body) → b .dead ≡ false → clauseAt (b .rules) i ≡ some c → spent (c .weight) ≡ false →
-      Disjunction (c .body) (some ps) → Stepped I k b (E i) (branches (c .weight) ps (put i (soft 0) b))
+  extended : {bs : List Branch} (i : ℕ) (c : Clause) → b .dead ≡ false → clauseAt (b .rules) i ≡ some c → Extension b i c (some bs) → Stepped I k b (E i) bs
 
 -- of a step that is not refused
 abbrev pub OnGo : (List Branch → Type 0) → Step → Type 0
@@ -113,19 +116,14 @@ module _ (I : Problem) (k : Claim) (b : Branch) where
   unfolding extending
   extending-is i d = at (clauseAt (b .rules) i) refl
     where
-      offers : (c : Clause) → clauseAt (b .rules) i ≡ some c → OnGo (Stepped I k b (E i)) (offered (extend b i c))
-      offers c e = unfold extend in (by (spent (c .weight)) refl (disjuncts (c .body)) (disjunction (c .body)))
-        where
-          by : (t : Bool) → spent (c .weight) ≡ t → (o : Option (List Body)) → Disjunction (c .body) o →
-              OnGo (Stepped I k b (E i)) (offered (unless t (extendBy (c .weight) o (put i (soft 0) b))))
-          by true u o p = unfold unless offered in tt
-          by false u none p = unfold unless extendBy offered in tt
-          by false u (some ps) p = unfold unless extendBy offered in (extended i c ps d e u p)
+      offers : (c : Clause) → clauseAt (b .rules) i ≡ some c → (o : Option (List Branch)) → Extension b i c o → OnGo (Stepped I k b (E i)) (offered o)
+      offers c e none h = unfold offered in tt
+      offers c e (some bs) h = unfold offered in (extended i c d e h)
 
       at : (o : Option Clause) → clauseAt (b .rules) i ≡ o →
           OnGo (Stepped I k b (E i)) (elim o as (λ _. Step) [ none ↦ stop 15 | some c ↦ offered (extend b i c) ])
       at none e = tt
-      at (some c) e = offers c e
+      at (some c) e = offers c e (extend b i c) (extension b i c)
 
   contradicting-is : (x : ℕ) → b .dead ≡ false → OnGo (Stepped I k b (C x)) (contradicting I x b)
   unfolding contradicting
@@ -160,6 +158,9 @@ module _ (I : Problem) (k : Claim) (b : Branch) where
       by : (t : Bool) → closable k b ≡ t → OnGo (Stepped I k b Q) (elim t as (λ _. Step) [ true ↦ go [] | false ↦ stop 18 ])
       by true e = closed e
       by false e = tt
+
+  pub went : (r : Record) (new : List Branch) → step I k r b ≡ go new → Stepped I k b r new
+  went r new e = subst (OnGo (Stepped I k b r)) e (stepped r)
 
   -- on a branch that is not dead
   alive : (s : Step) → b .dead ≡ false → elim (b .dead) as (λ _. Step) [ true ↦ stop 17 | false ↦ s ] ≡ s

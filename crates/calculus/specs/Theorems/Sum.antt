@@ -6,6 +6,7 @@ use mathlib.Core.Path.{_≡_, refl, ap, _∙_}
 use native.Mathlib.Omega.{arith}
 use native.Mathlib.Decide.{ℕ-discrete}
 use Rattle.instance.specs.Clause.{Weight, Clause, clauseAt}
+use Rattle.instance.specs.Within.{Every}
 use Rattle.calculus.specs.Branch.{putAt}
 
 -- ---- f 0 + .. + f (n - 1)
@@ -67,3 +68,8 @@ pub sum-append : {A : Type 0} (f : A → ℕ) (xs ys : List A) → sumOf f (xs +
 unfolding fold
 sum-append f [] ys = omega arith
 sum-append f (x ∷ xs) ys = omega (arith, sum-append f xs ys)
+
+pub sum-zero : {A : Type 0} (f : A → ℕ) (xs : List A) → Every (λ x. f x ≡ 0) xs → sumOf f xs ≡ 0
+unfolding fold
+sum-zero f [] h = refl
+sum-zero f (x ∷ xs) h = omega (arith, h .0, sum-zero f xs (h .1))

@@ -39,6 +39,12 @@ first-chosen I k b (r ∷ rs) = test (step I k r b) refl (stepped I k b r) (firs
     test (stop e) q d h = h
     test (go new) q d h = record { goes = q; did = d }
 
+pub size-some : (r : Record) → 1 ≤ size r
+unfolding size
+size-some (E i) = omega arith
+size-some (C x) = omega arith
+size-some Q = omega arith
+
 -- ---- the induction. Inv holds of the fuel, the bytes written and the open branches; P of the latter two and what comes of them.
 module _ (I : Problem) (k : Claim) (room : ℕ) where
   -- m is what Write does on b
@@ -156,19 +162,13 @@ module _ (I : Problem) (k : Claim) (room : ℕ) where
       one-more at r (stuck b) h = unfold also in tt
 
   -- ---- Fuel never decides: with more than the bytes left Write does the same.
-  some-byte : (r : Record) → 1 ≤ size r
-  unfolding size
-  some-byte (E i) = omega arith
-  some-byte (C x) = omega arith
-  some-byte Q = omega arith
-
   pub fuel-enough : (f g at : ℕ) (bs : List Branch) → at ≤ room → room < at + f → room < at + g → writeFrom I k f room at bs ≡ writeFrom I k g room at bs
   fuel-enough f g at bs l u v = write-kept (λ f at bs. (at ≤ room) × (room < at + f)) Same (record {
     end = λ f at h. none-open at;
     dry = λ at b bs h. absurd (omega arith);
     full = λ f at b bs m h d l. no-room at b bs m (h .0) d l;
     halt = λ f at b bs h e. halted at b bs (h .0) e;
-    next = λ f at b bs m h d l. (l, omega (arith, some-byte (m .chosen)));
+    next = λ f at b bs m h d l. (l, omega (arith, size-some (m .chosen)));
     more = λ f at b bs m h d l w q. one-more at b bs m (h .0) d l w q;
   }) f at bs (l, u) g v
     where
@@ -190,4 +190,4 @@ module _ (I : Problem) (k : Claim) (room : ℕ) where
       one-more : (at : ℕ) (b : Branch) (bs : List Branch) (m : Move) → at ≤ room → Does b m → at + size (m .chosen) ≤ room →
           (w : Draft) → Same (at + size (m .chosen)) (m .places ++ bs) w → Same at (b ∷ bs) (also (m .chosen) w)
       one-more at b bs m h d l w q zero v = absurd (omega arith)
-      one-more at b bs m h d l w q (suc g) v = unfold writeFrom in (rw (d .least, le-leb (at + size (m .chosen)) room l, writeFrom) (ap (also (m .chosen)) (q g (omega (arith, some-byte (m .chosen))))))
+      one-more at b bs m h d l w q (suc g) v = unfold writeFrom in (rw (d .least, le-leb (at + size (m .chosen)) room l, writeFrom) (ap (also (m .chosen)) (q g (omega (arith, size-some (m .chosen))))))
