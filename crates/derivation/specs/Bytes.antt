@@ -1,11 +1,11 @@
 -- A derivation's bytes (01, "Derivation records"): "One byte of kind, then a body whose length the kind fixes. Numbers are
 -- big-endian."
 use Prim.Native.Nat.{ℕ, zero, suc, _+_, _*_, _/_, _%_}
-use mathlib.Core.Bool.{Bool, true, false}
+use mathlib.Core.Bool.{true, false}
 use mathlib.Core.List.{List, [], _∷_, _++_}
 use mathlib.Core.Option.{Option, some, none}
 use lib.Dec.{eqb, leb}
-use lib.ListN.{length, take, drop}
+use lib.ListN.{length, take}
 use Rattle.instance.specs.Answers.{kindM, kindN}
 use Rattle.instance.specs.declared.answers.Claim.{Claim}
 use Rattle.instance.specs.declared.answers.Claim.the-variants.{Minimum, Infeasible}

@@ -2,7 +2,7 @@
 use Prim.Native.Nat.{ℕ}
 use mathlib.Core.Bool.{Bool, true, false, _&&_}
 use mathlib.Core.List.{List, [], _∷_}
-use mathlib.Core.Option.{Option, some, none}
+use mathlib.Core.Option.{some, none}
 use mathlib.Core.Path.{_≡_}
 use lib.Dec.{eqb}
 use lib.ListN.{drop}
@@ -12,7 +12,7 @@ use Rattle.instance.specs.Refusals.{staged}
 use Rattle.instance.specs.declared.answers.Claim.{Claim}
 use Rattle.instance.specs.declared.answers.Claim.the-variants.{Minimum, Infeasible}
 use Rattle.instance.specs.declared.answers.Checked.{Checked}
-use Rattle.instance.specs.declared.answers.Checked.the-variants.{Accepted, Refused}
+use Rattle.instance.specs.declared.answers.Checked.the-variants.{Refused}
 use Rattle.instance.specs.declared.answers.Valued.{Valued}
 use Rattle.reader.specs.Reading.{read, refused, readOf}
 use Rattle.valuation.specs.Value.{valued}

@@ -8,7 +8,6 @@ use lib.ListN.{length, drop}
 use Rattle.instance.specs.Clause.{Problem}
 use Rattle.instance.specs.Memory.{linksSize, foundSize, ample, zeros, cleared, returned}
 use Rattle.instance.specs.Refusals.{staged}
-use Rattle.instance.specs.declared.answers.Aim as aim
 use Rattle.instance.specs.declared.answers.Aim.{Aim}
 use Rattle.instance.specs.declared.answers.Claim.{Claim}
 use Rattle.instance.specs.declared.answers.Claim.the-variants.{Minimum, Infeasible}

@@ -8,7 +8,7 @@ use lib.Dec.{eqb}
 use lib.ListN.{length, getD, take, drop}
 use Rattle.instance.specs.Limits.{mostClauses, mostLiterals}
 use Rattle.instance.specs.Memory.{storeSize}
-use Rattle.instance.specs.Clause.{Literal, pos, neg, Weight, hard, soft, Body, clause, Clause, Problem, tautology}
+use Rattle.instance.specs.Clause.{Literal, pos, neg, Weight, hard, soft, clause, Clause, Problem, tautology}
 use Rattle.instance.specs.Within.{Every, Within}
 
 -- where the weights, the flags and the literals begin; the ends begin at 0

@@ -5,3 +5,4 @@ pub mod Literals
 pub mod Codes
 pub mod Store
 pub mod Memory
+pub mod Weights

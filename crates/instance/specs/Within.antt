@@ -4,7 +4,7 @@ use Prim.Native.Nat.{ℕ, _≤_}
 use mathlib.Core.List.{List, [], _∷_}
 use lib.ListN.{length}
 use Rattle.instance.specs.Limits.{mostVariables, mostClauses, mostLiterals, mostWeight}
-use Rattle.instance.specs.Clause.{Literal, Weight, hard, soft, Body, clause, Clause, Problem, variableOf, totalOf}
+use Rattle.instance.specs.Clause.{Literal, Weight, hard, soft, Body, clause, Problem, variableOf, totalOf}
 
 abbrev pub Every : {A : Type 0} → (A → Type 0) → List A → Type 0
 Every P [] = Unit {0}

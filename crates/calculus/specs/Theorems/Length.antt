@@ -86,7 +86,7 @@ module _ (a n : ℕ) where
         arith,
         fees-gross b,
         branches-fees (leaves ((put i (soft 0) b) .rules)) (potential n b) bs
-        (every-weaken (λ d (g : Gained (put i (soft 0) b) d). ap leaves (g .rules)) bs (extension-leaves b i c bs x)) (extend-potential n b i c bs s e x),
+            (every-weaken (λ d (g : Gained (put i (soft 0) b) d). ap leaves (g .rules)) bs (extension-leaves b i c bs x)) (extend-potential n b i c bs s e x),
         whole,
         mul-le-mul-right a (parts .two),
       )

@@ -103,12 +103,12 @@ module _ (n : ℕ) where
   contradict-mass x b d lo hi (oneHard l v m w) = omega (arith, mass-book (b .weight l) (setWeight l 0 b), mass-set l 0 b (rw v (lo, hi)))
   contradict-mass x b d lo hi (bothSoft s e p) =
       unfold setWeight same in (
-        omega (
-          arith,
-          mass-book s (setWeight (pos x) (b .weight (pos x) - s) (setWeight (neg x) (b .weight (neg x) - s) b)),
-          mass-set (neg x) (b .weight (neg x) - s) b (lo, hi),
-          mass-set (pos x) (b .weight (pos x) - s) (setWeight (neg x) (b .weight (neg x) - s) b) (lo, hi),
-        ))
+      omega (
+        arith,
+        mass-book s (setWeight (pos x) (b .weight (pos x) - s) (setWeight (neg x) (b .weight (neg x) - s) b)),
+        mass-set (neg x) (b .weight (neg x) - s) b (lo, hi),
+        mass-set (pos x) (b .weight (pos x) - s) (setWeight (neg x) (b .weight (neg x) - s) b) (lo, hi),
+      ))
 
   branches-mass : (w : Weight) (ls : List Literal) (b : Branch) (v : ℕ) → Every (In n) ls → mass n b + softOf w ≤ v → Every (λ d. mass n d ≤ v) (branches w (map single ls) b)
   unfolding branches gain

@@ -50,11 +50,13 @@ module _ (I : Problem) (k : Claim) where
       }) bs (extension-leaves b i r bs x) (extend-potential (I .variables) b i r bs s p x)
 
   contradicts-within : (x : ℕ) (b : Branch) (bs : List Branch) (e c : ℕ) → Stepped I k b (C x) bs → Within b e c → Every (λ d. Within d e (suc c)) bs
-  contradicts-within x b bs e c (contradicted {b′ = d} _ a lo hi y) w =
-      (record {
-        extensions = omega (arith, w .extensions, ap remaining ((contradiction-leaves x b d y) .rules));
-        contradictions = omega (arith, w .contradictions, contradict-potential (I .variables) x b d lo hi a y);
-      }, tt)
+  contradicts-within x b bs e c (contradicted {b′ = d} _ a lo hi y) w = (
+    record {
+      extensions = omega (arith, w .extensions, ap remaining ((contradiction-leaves x b d y) .rules));
+      contradictions = omega (arith, w .contradictions, contradict-potential (I .variables) x b d lo hi a y);
+    },
+    tt,
+  )
 
   pub path-within : Fits I → {b : Branch} {e c : ℕ} → Path I k b e c → Within b e c
   path-within fits start =

@@ -119,14 +119,14 @@ module _ (n : ℕ) where
       unfold positive in (omega (arith, weighted-set l 0 b (rw v (lo, hi)), positive-is (b .weight l) w))
   contradict-potential x b d lo hi q (bothSoft s e p) =
       unfold same in (
-        omega (
-          arith,
-          weighted-set (neg x) (b .weight (neg x) - s) b (lo, hi),
-          weighted-set (pos x) (b .weight (pos x) - s) (setWeight (neg x) (b .weight (neg x) - s) b) (lo, hi),
-          positive-is (b .weight (pos x)) (omega arith),
-          positive-is (b .weight (neg x)) (omega arith),
-          rw (← e) at (positive-rest (b .weight (pos x)) (b .weight (neg x))),
-        ))
+      omega (
+        arith,
+        weighted-set (neg x) (b .weight (neg x) - s) b (lo, hi),
+        weighted-set (pos x) (b .weight (pos x) - s) (setWeight (neg x) (b .weight (neg x) - s) b) (lo, hi),
+        positive-is (b .weight (pos x)) (omega arith),
+        positive-is (b .weight (neg x)) (omega arith),
+        rw (← e) at (positive-rest (b .weight (pos x)) (b .weight (neg x))),
+      ))
 
   -- an extension takes a clause away and brings a unit
   put-potential : (b : Branch) (i : ℕ) (c : Clause) → clauseAt (b .rules) i ≡ some c → spent (c .weight) ≡ false → 1 + potential n (put i (soft 0) b) ≡ potential n b

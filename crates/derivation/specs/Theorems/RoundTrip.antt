@@ -1,20 +1,17 @@
 -- Reading what was written: the claim and the records come back from their bytes.
 use Prim.Native.Nat.{ℕ, zero, suc, _+_, _*_, _/_, _%_, _^_, _<_, _≤_}
-use mathlib.Core.Bool.{Bool, true, false}
-use mathlib.Core.List.{List, [], _∷_, _++_, map, append-assoc}
-use mathlib.Core.Option.{Option, some, none}
-use mathlib.Core.Path.{_≡_, refl, ap, sym, _∙_}
+use mathlib.Core.List.{List, [], _∷_, _++_, map}
+use mathlib.Core.Option.{some}
+use mathlib.Core.Path.{_≡_, refl, ap, _∙_}
 use native.Mathlib.Omega.{arith}
 use native.Mathlib.Nat.{pow-suc, div-lt-iff-lt-mul, div-add-mod}
 use borrow.Author.Tests.{le-leb}
-use lib.Dec.{leb}
-use lib.ListN.{length, take, drop, length-append}
+use lib.ListN.{length, drop, length-append}
 use lib.Seq.{take-at, drop-at}
 use Rattle.instance.specs.Within.{Every}
-use Rattle.instance.specs.Answers.{kindM, kindN}
 use Rattle.instance.specs.declared.answers.Claim.{Claim}
 use Rattle.instance.specs.declared.answers.Claim.the-variants.{Minimum, Infeasible}
-use Rattle.calculus.specs.Derivation.{Item, whole, other, size}
+use Rattle.calculus.specs.Derivation.{whole, size}
 use Rattle.calculus.specs.declared.Record.{Record}
 use Rattle.calculus.specs.declared.Record.the-variants.{E, C, Q}
 use Rattle.derivation.specs.Bytes.{

@@ -8,6 +8,7 @@ use borrow.Author.Tests.{eqb-true}
 use lib.Dec.{eqb}
 use lib.ListN.{drop}
 use Rattle.instance.specs.Clause.{Problem}
+use Rattle.instance.specs.Meaning.{assigned}
 use Rattle.instance.specs.Refusals.{staged}
 use Rattle.instance.specs.declared.answers.Claim.{Claim}
 use Rattle.instance.specs.declared.answers.Claim.the-variants.{Minimum, Infeasible}
@@ -21,12 +22,12 @@ use Rattle.valuation.specs.Theorems.Value.{Weighed, OnWorth, valued-weighed}
 use Rattle.calculus.specs.Branch.{root}
 use Rattle.calculus.specs.Claims.{True}
 use Rattle.calculus.specs.Derivation.{walk}
-use Rattle.calculus.specs.Theorems.Feasible.{none-broken}
+use Rattle.calculus.specs.Theorems.Broken.{first-broken}
 use Rattle.calculus.specs.Theorems.Sound.{sound}
 use Rattle.calculus.specs.Theorems.Walked.{accepted-counted}
 use Rattle.derivation.specs.Bytes.{claimSize, claimAt, items}
 use Rattle.derivation.specs.Check.{followed, shown, claimed, checkOf}
-use Rattle.derivation.specs.Demands.{Layout, Cheapest, Meant}
+use Rattle.derivation.specs.Demands.{Meant}
 
 module _ (text bytes proof : List ℕ) (I : Problem) (reads : readOf text ≡ read I) where
   -- the answer of an accepted derivation is its claim, and the claim is true
@@ -51,7 +52,7 @@ module _ (text bytes proof : List ℕ) (I : Problem) (reads : readOf text ≡ re
     I,
     reads,
     record {
-      layout = record { size = w .size; bits = w .bits; meets = none-broken _ (I .clauses) (sym (w .breaks) ∙ f) };
+      layout = record { size = w .size; bits = w .bits; meets = first-broken (assigned bytes) (I .clauses) .0 (sym (w .breaks) ∙ f) };
       exact = sym (w .costs) ∙ e;
       least = h .1;
     },

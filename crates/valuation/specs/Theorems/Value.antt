@@ -5,7 +5,7 @@ use mathlib.Core.List.{List, [], _∷_}
 use mathlib.Core.Option.{Option, some, none}
 use mathlib.Core.Path.{_≡_, refl}
 use native.Mathlib.Omega.{arith}
-use borrow.Author.Tests.{eqb-true, leb-true}
+use borrow.Author.Tests.{eqb-true, leb-true, eq-eqb, le-leb}
 use lib.Dec.{eqb, leb}
 use lib.ListN.{length}
 use Rattle.instance.specs.Clause.{Problem}
@@ -52,3 +52,13 @@ valued-weighed I bytes = on-length (eqb (length bytes) (I .variables)) refl
         ])
     on-length false q = tt
     on-length true q = on-bytes (eqb-true (length bytes) (I .variables) q) (firstOver 0 bytes) refl
+
+-- n bytes of 0 and 1 are not refused
+all-bits : (i : ℕ) (bytes : List ℕ) → Every (λ b. b ≤ 1) bytes → firstOver i bytes ≡ none
+unfolding firstOver
+all-bits i [] h = refl
+all-bits i (b ∷ bs) h = rw (le-leb b 1 (h .0), firstOver) (all-bits (suc i) bs (h .1))
+
+pub valued-worth : (I : Problem) (bytes : List ℕ) → length bytes ≡ I .variables → Every (λ b. b ≤ 1) bytes → valued I bytes ≡ worthOf I bytes
+unfolding valued
+valued-worth I bytes e h = rw (eq-eqb (length bytes) (I .variables) e, valued, all-bits 0 bytes h)
