@@ -6,3 +6,4 @@ pub mod Meaning
 pub mod Within
 pub mod Memory
 pub mod Store
+pub mod Theorems

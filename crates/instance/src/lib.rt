@@ -1,6 +1,7 @@
 // What every layer shares: the instance record with its limits, the refusal, the answers, the sizes of the lent memory.
 mod answers;
 mod refusals;
+mod store;
 mod workspaces;
 
 pub use answers::Aim;
@@ -11,6 +12,10 @@ pub use answers::Valued;
 pub use answers::Written;
 pub use refusals::Stage;
 pub use refusals::refusal;
+pub use store::FLAGS_AT;
+pub use store::LITERALS_AT;
+pub use store::WEIGHTS_AT;
+pub use store::start_of;
 pub use workspaces::CELLS;
 pub use workspaces::FOUND;
 pub use workspaces::FRAMES;

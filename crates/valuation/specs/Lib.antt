@@ -1,3 +1,4 @@
 pub mod Value
 pub mod Better
+pub mod Tally
 pub mod Examples
