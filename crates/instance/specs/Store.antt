@@ -75,3 +75,9 @@ pub record Stored (store : List ℕ) (I : Problem) : Type 0 where
   pub clauses : clausesIn store (length (I .clauses)) ≡ I .clauses
   pub laid : Laid store (I .variables) (length (I .clauses))
   pub within : Within I
+
+-- the store holds this instance, which has n variables and K clauses
+pub record Given (store : List ℕ) (n K : ℕ) (I : Problem) : Type 0 where
+  pub stored : Stored store I
+  pub variables : n ≡ I .variables
+  pub clauses : K ≡ length (I .clauses)

@@ -1,4 +1,5 @@
 pub mod Value
 pub mod Better
+pub mod Tally
 pub mod Examples
 pub mod Theorems

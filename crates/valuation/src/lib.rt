@@ -1,1 +1,6 @@
-// What assignments are worth, and which of two is the cheaper. What it must answer is said in specs/.
+// What assignments are worth, and which of two is the cheaper.
+mod falsify;
+mod tally;
+mod valuing;
+
+pub use valuing::valued;
