@@ -26,6 +26,7 @@ use Rattle.instance.specs.Clause.{
 }
 use Rattle.instance.specs.Within.{Every, In, InBody, Weighty, Within}
 use Rattle.instance.specs.Theorems.Choices.{on-test, on-option, never, both, neither}
+use Rattle.instance.specs.Theorems.Clauses.{total-snoc}
 use Rattle.instance.specs.Theorems.Every.{every-snoc, every-map}
 use Rattle.instance.specs.Theorems.Literals.{Different, DifferentIn, different-kept}
 use Rattle.reader.specs.Lines.{Token, Line, lines}
@@ -69,7 +70,7 @@ value-grows v [] = omega arith
 value-grows v (b ∷ bs) = omega (arith, value-grows (10 * v + (b - zeroDigit)) bs)
 
 -- a number without a leading zero is at least 1
-spelled-some : (t : List ℕ) → spelled t ≡ true → 1 ≤ decimal t
+pub spelled-some : (t : List ℕ) → spelled t ≡ true → 1 ≤ decimal t
 unfolding spelled decimal allDigits digit valueFrom
 spelled-some [] h = never (sym h)
 spelled-some (b ∷ bs) h =
@@ -151,11 +152,6 @@ pub record Open (I : Problem) (w : Weight) (ls : List Literal) : Type 0 where
   pub opens : Opens (I .clauses) w
   pub fits : Every (In (I .variables)) ls
   pub different : Different ls
-
-total-snoc : (cs : List Clause) (c : Clause) → totalOf (cs ++ (c ∷ [])) ≡ totalOf cs + softOf (c .weight)
-unfolding totalOf
-total-snoc [] c = omega arith
-total-snoc (d ∷ ds) c = omega (arith, total-snoc ds c)
 
 more-clauses : (n m : ℕ) → n ≤ m → (c : Clause) → InBody n (c .body) → InBody m (c .body)
 more-clauses n m h c = go (c .body)

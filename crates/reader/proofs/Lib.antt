@@ -1,0 +1,4 @@
+pub mod Rest
+pub mod Spans
+pub mod Digits
+pub mod Says
