@@ -67,9 +67,9 @@ module _ {t : List ℕ} {limit value i : ℕ} (r : ReadTo t limit value i) where
         held = omega arith;
         digits = r .digits ∙ rest-next allDigits t i h ∙ all-more (getD t i 0) (drop (i + 1) t) e;
         worth =
-          r .worth
-          ∙ rest-next (λ (bs : List ℕ). min (valueFrom value bs) (limit + 1)) t i h
-          ∙ capped (limit + 1) (10 * value + (getD t i 0 - zeroDigit)) v (drop (i + 1) t) (omega arith);
+            r .worth
+            ∙ rest-next (λ (bs : List ℕ). min (valueFrom value bs) (limit + 1)) t i h
+            ∙ capped (limit + 1) (10 * value + (getD t i 0 - zeroDigit)) v (drop (i + 1) t) (omega arith);
       }
 
   module _ (some : length t ≡ 0 → ⊥) (front : getD t 0 0 ≡ zeroDigit → ⊥) where

@@ -1,15 +1,15 @@
 -- Laws of spans: how a loop passes the bytes of a kind.
-use Prim.Native.Nat.{ℕ, suc, _+_, _≤_, _<_}
+use Prim.Native.Nat.{ℕ, suc, _+_, _-_, _≤_, _<_}
 use mathlib.Core.Bool.{Bool, true, false}
 use mathlib.Core.List.{List, [], _∷_}
 use mathlib.Core.Path.{_≡_, refl, sym, ap, _∙_}
 use native.Mathlib.Omega.{arith}
 use native.Mathlib.Numerals.{add-one}
-use lib.ListN.{length, getD, drop, length-drop, drop-of-length-le}
+use lib.ListN.{length, getD, take, drop, length-take, length-drop, drop-of-length-le}
 use lib.Seq.{drop-cons}
 use Rattle.instance.specs.Theorems.Choices.{on-test}
 use Rattle.reader.specs.Lines.{blank, inToken}
-use Rattle.reader.specs.Spans.{span, past, TokenAt}
+use Rattle.reader.specs.Spans.{span, past}
 
 module _ (kind : ℕ → Bool) where
   pub span-more : (b : ℕ) (bs : List ℕ) → kind b ≡ true → span kind (b ∷ bs) ≡ suc (span kind bs)
@@ -19,6 +19,13 @@ module _ (kind : ℕ → Bool) where
   pub span-stop : (b : ℕ) (bs : List ℕ) → kind b ≡ false → span kind (b ∷ bs) ≡ 0
   unfolding span
   span-stop b bs e = rw (e, span)
+
+  pub span-none : (b : ℕ) (bs : List ℕ) → span kind (b ∷ bs) ≡ 0 → kind b ≡ false
+  span-none b bs h = go (kind b) refl
+    where
+      go : (t : Bool) → kind b ≡ t → kind b ≡ false
+      go true e = absurd (omega (arith, span-more b bs e))
+      go false e = e
 
   span-le : (bs : List ℕ) → span kind bs ≤ length bs
   unfolding span
@@ -61,13 +68,23 @@ module _ (kind : ℕ → Bool) where
   pub past-within : (text : List ℕ) (from : ℕ) → from ≤ length text → past kind text from ≤ length text
   past-within text from h = omega (arith, span-le (drop from text), length-drop from text)
 
-pub token-found : (text : List ℕ) (from at end : ℕ) → from ≤ length text → at ≡ past blank text from → end ≡ past inToken text at → TokenAt text from at end
-token-found text from at end h e f =
-    let l = past-within blank text from h in
+-- ---- a token of a line: past the blanks, up to its end; empty where the line has no more
+pub record TokenAt (text : List ℕ) (from at end : ℕ) : Type 0 where
+  pub starts : at ≡ past blank text from
+  pub ends : end ≡ past inToken text at
+  pub after : from ≤ at
+  pub order : at ≤ end
+  pub within : end ≤ length text
+
+pub token-found : {text : List ℕ} {from at end : ℕ} → from ≤ length text → at ≡ past blank text from → end ≡ past inToken text at → TokenAt text from at end
+token-found {text} {from} {at} {end} h e f =
     record {
       starts = e;
       ends = f;
       after = omega arith;
       order = omega arith;
-      within = omega (arith, past-within inToken text at (omega arith));
+      within = omega (arith, past-within inToken text at (omega (arith, past-within blank text from h)));
     }
+
+pub token-some : {text : List ℕ} {from at end : ℕ} → TokenAt text from at end → at < end → 0 < length (take (end - at) (drop at text))
+token-some {text} {from} {at} {end} t h = omega (arith, t, length-take (end - at) (drop at text), length-drop at text)

@@ -1,18 +1,29 @@
 use instance::Instance;
-
 ghost use mathlib.Core.List.{List};
 ghost use mathlib.Core.Path.{_≡_};
 ghost use Prim.Native.Nat.{_+_, _<_, _≤_, max};
 ghost use Rattle.instance.specs.Limits.{mostClauses, mostLiterals, mostWeight};
 ghost use Rattle.instance.specs.Clause.{Literal, Problem};
 ghost use Rattle.instance.specs.Store.{literalOf, weightOf};
-ghost use Rattle.reader.specs.Reading.{withLiteral, withClause};
+ghost use Rattle.reader.specs.Reading.{nothing as nothingYet, withLiteral, withClause};
 ghost use Rattle.reader.specs.Survey.{counts};
 
 fn larger(a: u64, b: u64) -> u64
     ensures { λ r. ⌜ r ≡ max a b ⌝ }
 {
     if a < b { b } else { a }
+}
+
+// Nothing is read yet.
+pub fn nothing() -> Instance
+    ensures { λ r. ⌜ r ≡ counts nothingYet ⌝ }
+{
+    Instance {
+        variables: 0,
+        clauses: 0,
+        written: 0,
+        total: 0,
+    }
 }
 
 // One more literal is written, of this code.

@@ -3,7 +3,6 @@ use instance::STORE;
 use instance::Surveyed;
 use instance::clear;
 use instance::refusal;
-
 ghost use Rattle.reader.specs.Survey.{SurveyAnswers};
 
 // Survey: the numbers of the instance that a text is read as.

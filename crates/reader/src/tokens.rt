@@ -2,13 +2,7 @@ ghost use mathlib.Core.Path.{_≡_};
 ghost use Prim.Native.Nat.{_≤_};
 ghost use lib.ListN.{length};
 ghost use Rattle.reader.specs.Lines.{blank, inToken};
-ghost use Rattle.reader.specs.Spans.{inLine, past, TokenAt};
-
-// A token: the place of its first byte, and the place after its last. Empty where the line has no more.
-pub struct Span {
-    pub at: usize,
-    pub end: usize,
-}
+ghost use Rattle.reader.specs.Spans.{inLine, past};
 
 fn is_blank(b: u8) -> bool
     ensures { λ r. ⌜ r ≡ blank b ⌝ }
@@ -23,7 +17,7 @@ fn is_inner(b: u8) -> bool
 }
 
 // The first place from one on that holds no blank.
-fn past_blanks(text: &[u8], from: usize) -> usize
+pub fn past_blanks(text: &[u8], from: usize) -> usize
     requires { ⌜ from ≤ length (now text) ⌝ }
     ensures { λ r. ⌜ r ≡ past blank (now (text .entry)) from ⌝ }
 {
@@ -39,7 +33,7 @@ fn past_blanks(text: &[u8], from: usize) -> usize
 }
 
 // The first place from one on that holds no byte of a token.
-fn past_token(text: &[u8], from: usize) -> usize
+pub fn past_token(text: &[u8], from: usize) -> usize
     requires { ⌜ from ≤ length (now text) ⌝ }
     ensures { λ r. ⌜ r ≡ past inToken (now (text .entry)) from ⌝ }
 {
@@ -67,14 +61,4 @@ pub fn past_line(text: &[u8], from: usize) -> usize
         i += 1;
     }
     i
-}
-
-// The next token of a line.
-pub fn token(text: &[u8], from: usize) -> Span
-    requires { ⌜ from ≤ length (now text) ⌝ }
-    ensures { λ r. ⌜ TokenAt (now (text .entry)) from (r .at) (r .end) ⌝ }
-{
-    let at = past_blanks(text, from);
-    let end = past_token(text, at);
-    Span { at, end }
 }

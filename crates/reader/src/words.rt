@@ -1,7 +1,6 @@
 use crate::numbers::Number;
 use crate::numbers::read_number;
 use instance::Instance;
-
 ghost use mathlib.Core.Path.{_≡_};
 ghost use Prim.Native.Nat.{_+_, _*_, _<_, _≤_};
 ghost use lib.ListN.{length};

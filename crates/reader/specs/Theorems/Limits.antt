@@ -98,12 +98,15 @@ weighed-opens cs (soft w) light few =
     let some : w ≡ 0 → ⊥ = eqb-false w 0 (neither (eqb w 0) (ltb mostWeight w) e .0) in
     record { fewer = few; lighter = ltb-false mostWeight (totalOf cs + w) f; weighty = omega (arith, some) }
 
-pub first-opens : (cs : List Clause) (t : List ℕ) → totalOf cs ≤ mostWeight → Opening cs (firstWord cs t)
+first-opens : (cs : List Clause) (t : List ℕ) → totalOf cs ≤ mostWeight → Opening cs (firstWord cs t)
 unfolding firstWord
 first-opens cs t light =
     on-option (Opening cs) (weightSpelled t) (λ _. tt) λ w e.
     on-test (Opening cs) (leb mostClauses (length cs)) (λ _. tt) λ f.
     weighed-opens cs w light (leb-false mostClauses (length cs) f)
+
+pub first-taken : (cs : List Clause) (t : List ℕ) (w : Weight) → totalOf cs ≤ mostWeight → firstWord cs t ≡ weighs w → Opens cs w
+first-taken cs t w light e = subst (Opening cs) e (first-opens cs t light)
 
 -- what a later token was taken for
 pub record Taken (written : ℕ) (l : Literal) : Type 0 where
@@ -128,7 +131,7 @@ literal-variable (b ∷ bs) =
     (λ _. on-test Variable (spelled bs) (λ e. spelled-some bs e) (λ _. tt))
     (λ _. on-test Variable (spelled (b ∷ bs)) (λ e. spelled-some (b ∷ bs) e) (λ _. tt))
 
-pub later-holds : (written : ℕ) (t : List ℕ) → Holding written (laterWord written t)
+later-holds : (written : ℕ) (t : List ℕ) → Holding written (laterWord written t)
 unfolding laterWord
 later-holds written t =
     on-test (Holding written) (alone zeroDigit t) (λ _. tt) λ _.
@@ -140,6 +143,9 @@ later-holds written t =
       high = ltb-false mostVariables (variableOf l) f;
       fewer = leb-false mostLiterals written g;
     }
+
+pub later-taken : (written : ℕ) (t : List ℕ) (l : Literal) → laterWord written t ≡ holds l → Taken written l
+later-taken written t l e = subst (Holding written) e (later-holds written t)
 
 -- ---- the instance so far
 pub record Sound (I : Problem) : Type 0 where
