@@ -24,7 +24,7 @@ use Rattle.reader.specs.Lines.{
   startsInToken,
   lines,
 }
-use Rattle.reader.specs.Spans.{inLine, span, past}
+use Rattle.reader.specs.Spans.{span, past}
 use Rattle.reader.proofs.Spans.{span-more, span-stop, span-none, span-after, TokenAt}
 
 -- the lines of a text from a place on

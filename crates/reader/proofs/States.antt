@@ -1,6 +1,6 @@
 -- Where the reader stands, between lines or inside a clause, and each step from there.
 use Prim.Native.Nat.{ℕ, suc, _+_, _-_, _/_, _≤_, _<_, max}
-use mathlib.Core.Bool.{Bool, true, false, _||_}
+use mathlib.Core.Bool.{Bool, false, _||_}
 use mathlib.Core.List.{List, [], _∷_, _++_}
 use mathlib.Core.Path.{_≡_, refl, sym, ap, subst, _∙_}
 use native.Mathlib.Omega.{arith}
@@ -9,7 +9,7 @@ use lib.Dec.{eqb}
 use lib.ListN.{length, getD, take, drop, set, length-set}
 use lib.Seq.{drop-cons, drop-set-lt}
 use Rattle.instance.specs.Limits.{mostClauses, mostLiterals, mostWeight}
-use Rattle.instance.specs.Clause.{Literal, Weight, Clause, Problem, variableOf, occurs, opposite, keptWith, tautology, totalOf}
+use Rattle.instance.specs.Clause.{Literal, Weight, Clause, Problem, variableOf, occurs, opposite, keptWith, tautology}
 use Rattle.instance.specs.Memory.{storeSize}
 use Rattle.instance.specs.Refusals.{staged}
 use Rattle.instance.specs.Store.{weightsAt, flagsAt, literalsAt, literalOf, weightOf, flagOf, Stored}
@@ -18,8 +18,8 @@ use Rattle.instance.specs.Theorems.Literals.{kept-again, kept-new, tautology-sn
 use Rattle.instance.specs.declared.Instance.{Instance}
 use Rattle.instance.specs.declared.answers.Surveyed.{Surveyed}
 use Rattle.reader.specs.Lines.{Token, lines}
-use Rattle.reader.specs.Words.{letterC, First, weighs, badFirst, firstWord, Later, ends, holds, badLater, laterWord}
-use Rattle.reader.specs.Reading.{Reading, read, refused, nothing, withLiteral, withClause, ended, clauseFrom, comment, lineRead, linesRead, readOf}
+use Rattle.reader.specs.Words.{letterC, First, weighs, firstWord, Later, laterWord}
+use Rattle.reader.specs.Reading.{read, refused, nothing, withLiteral, withClause, ended, clauseFrom, comment, lineRead, readOf}
 use Rattle.reader.specs.Survey.{counts, surveyOf}
 use Rattle.reader.specs.Spans.{inLine, past}
 use Rattle.reader.specs.Said.{openingSays, wordSays}
@@ -31,7 +31,7 @@ use Rattle.reader.specs.declared.words.Word.{Word}
 use Rattle.reader.proofs.Spans.{TokenAt, past-within}
 use Rattle.reader.proofs.Rows.{Rows, Row, rows-none, row-begun, row-more, row-flagged, row-coded, row-closed}
 use Rattle.reader.proofs.Lexing.{from, from-blanks, found}
-use Rattle.reader.proofs.Modes.{between, skipping, inside, after, onLine, onText, text-lines, token-goes, token-stops, line-stops, line-goes, next-line, last-line, skip-line}
+use Rattle.reader.proofs.Modes.{between, skipping, inside, after, onText, text-lines, token-goes, token-stops, line-stops, line-goes, next-line, last-line, skip-line}
 
 -- ---- the lent store is the caller's beyond its constant
 pub record Lent (before store : List ℕ) : Type 0 where

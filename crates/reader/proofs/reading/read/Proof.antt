@@ -1,12 +1,11 @@
 -- Between lines and inside a clause the reader stands as proofs/States.antt says, and each turn is one of its steps.
 use Prim.Native.Nat.{ℕ, _-_}
 use mathlib.Core.List.{List}
-use mathlib.Core.Path.{_≡_, refl, sym, _∙_}
+use mathlib.Core.Path.{refl}
 use native.Mathlib.Omega.{arith}
 use borrow.Author.Needs.{needs}
 use lib.ListN.{length}
 use Rattle.reader.specs.Lines.{blank}
-use Rattle.reader.specs.declared.words.Opening.{Opening}
 use Rattle.reader.proofs.Spans.{past-within, TokenAt, token-found, token-some}
 use Rattle.reader.proofs.States.{
   Lent,
@@ -54,7 +53,6 @@ textOf c = c .before .before .before .before .args .text .now
 
 first : (c : tie.After-past-token Inv-loop μ-loop Inv-text μ-text) → TokenAt (textOf (c .before .before)) (c .before .before .text .i) (c .before .past-blanks .result) (c .past-token .result)
 first c = token-found (c .before .before .text .inv .here) (c .before .past-blanks .ensures) (c .past-token .ensures)
-
 
 -- the line that a clause is on, and its weight
 abbrev openingOf : tie.At-loop Inv-loop μ-loop Inv-text μ-text → tie.After-first-word Inv-loop μ-loop Inv-text μ-text

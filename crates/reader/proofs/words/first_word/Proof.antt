@@ -1,11 +1,10 @@
 use mathlib.Core.Path.{_≡_, sym, ap, _∙_}
 use native.Mathlib.Omega.{arith}
 use borrow.Author.Needs.{needs}
-use Rattle.instance.specs.Limits.{mostClauses, mostWeight}
 use Rattle.instance.specs.Clause.{Problem}
 use Rattle.instance.specs.Store.{weightOf}
 use Rattle.instance.specs.declared.Instance.{Instance}
-use Rattle.reader.specs.Words.{First, firstWord}
+use Rattle.reader.specs.Words.{firstWord}
 use Rattle.reader.specs.Survey.{counts}
 use Rattle.reader.specs.declared.words.Weight as declared
 use Rattle.reader.specs.declared.words.Spelled.{Spelled}

@@ -2,9 +2,9 @@ use Prim.Native.Nat.{_≤_}
 use mathlib.Core.Path.{_≡_, sym, ap, _∙_}
 use native.Mathlib.Omega.{arith}
 use borrow.Author.Needs.{needs}
-use Rattle.instance.specs.Limits.{mostVariables, mostLiterals}
-use Rattle.reader.specs.Words.{Later, signed}
-use Rattle.reader.specs.Said.{numberOf, literalSays}
+use Rattle.instance.specs.Limits.{mostVariables}
+use Rattle.reader.specs.Words.{signed}
+use Rattle.reader.specs.Said.{literalSays}
 use Rattle.reader.specs.declared.numbers.Number.{Number}
 use Rattle.reader.proofs.Says.{coded, literalBy, number-below, literal-many, literal-few, literal-says, code-variable}
 use Rattle.reader.proofs.words.literal.Statement.{statement}
