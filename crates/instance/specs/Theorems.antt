@@ -3,6 +3,7 @@ pub mod Choices
 pub mod Every
 pub mod Scan
 pub mod Literals
+pub mod Clauses
 pub mod Codes
 pub mod Store
 pub mod Memory

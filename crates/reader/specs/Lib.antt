@@ -5,4 +5,8 @@ pub mod Reading
 pub mod Survey
 pub mod Quoted
 pub mod Examples
+pub mod Spans
+pub mod Said
+pub mod Keeping
+pub mod Promise
 pub mod Theorems

@@ -1,10 +1,21 @@
--- Laws of clearing lent memory.
-use Prim.Native.Nat.{ℕ, _+_, _<_}
+-- Laws of lent memory: whether it is enough, and how it is cleared.
+use Prim.Native.Nat.{ℕ, _+_, _≤_, _<_}
+use mathlib.Core.Bool.{true, false}
 use mathlib.Core.List.{List}
 use mathlib.Core.Path.{_≡_}
 use borrow.Author.Fill.{fill-none, fill-more}
+use borrow.Author.Tests.{le-leb, lt-leb}
 use lib.ListN.{length, drop, set}
-use Rattle.instance.specs.Memory.{zeros, cleared}
+use Rattle.instance.specs.Memory.{ample, zeros, cleared}
+
+-- enough memory, or not
+pub ample-yes : (size : ℕ) (w : List ℕ) → size ≤ length w → ample size w ≡ true
+unfolding ample
+ample-yes size w h = le-leb size (length w) h
+
+pub ample-no : (size : ℕ) (w : List ℕ) → length w < size → ample size w ≡ false
+unfolding ample
+ample-no size w h = lt-leb size (length w) h
 
 -- what a clearing loop comes to, element by element
 pub cleared-none : (w : List ℕ) → w ≡ cleared 0 w

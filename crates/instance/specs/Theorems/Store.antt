@@ -1,7 +1,7 @@
 -- Walking over a store that holds an instance: its clauses one by one, and where their literals lie.
 use Prim.Native.Nat.{ℕ, zero, suc, _+_, _-_, _<_, _≤_}
 use mathlib.Core.List.{List, [], _∷_, _++_}
-use mathlib.Core.Option.{some, none}
+use mathlib.Core.Option.{some}
 use mathlib.Core.Path.{_≡_, refl, ap, _∙_}
 use native.Mathlib.Omega.{arith}
 use native.Mathlib.Decide.{ℕ-discrete}
@@ -10,7 +10,8 @@ use lib.ListN.{length, getD, take, drop, length-append, List·getD-append}
 use lib.Seq.{drop-cons, getD-at}
 use Rattle.instance.specs.Limits.{mostLiterals}
 use Rattle.instance.specs.Clause.{Clause, Problem, clauseAt}
-use Rattle.instance.specs.Store.{literalsAt, startIn, endIn, codesIn, clauseIn, clausesIn, Laid, Stored}
+use Rattle.instance.specs.Store.{literalsAt, startIn, endIn, clauseIn, clausesIn, Laid, Stored}
+use Rattle.instance.specs.Theorems.Clauses.{clause-at}
 
 -- ---- the clauses by index
 pub clauses-length : (store : List ℕ) (K : ℕ) → length (clausesIn store K) ≡ K
@@ -29,20 +30,6 @@ clauses-get store (suc K) k d h = go (ℕ-discrete k K) (clauses-get store K k d
         let l : k < K = omega (arith, n) in
         List·getD-append (clausesIn store K) (clauseIn store K ∷ []) d k (omega (arith, clauses-length store K)) ∙ ih l
 
--- ---- the clauses by number
-clause-at : (cs : List Clause) (k : ℕ) (d : Clause) → k < length cs → clauseAt cs (suc k) ≡ some (getD cs k d)
-unfolding clauseAt
-clause-at [] k d h = absurd (omega arith)
-clause-at (c ∷ cs) zero d h = refl
-clause-at (c ∷ cs) (suc k) d h = clause-at cs k d (omega arith)
-
-pub no-clause : (cs : List Clause) (i : ℕ) → length cs < i → clauseAt cs i ≡ none
-unfolding clauseAt
-no-clause [] i h = refl
-no-clause (c ∷ cs) zero h = refl
-no-clause (c ∷ cs) (suc zero) h = absurd (omega arith)
-no-clause (c ∷ cs) (suc (suc i)) h = no-clause cs (suc i) (omega arith)
-
 module _ {store : List ℕ} {I : Problem} (s : Stored store I) (k : ℕ) (h : k < length (I .clauses)) where
   stored-get : getD (I .clauses) k (clauseIn store k) ≡ clauseIn store k
   stored-get = rw (s .clauses) at (clauses-get store (length (I .clauses)) k (clauseIn store k) h)
@@ -55,11 +42,11 @@ module _ {store : List ℕ} {I : Problem} (s : Stored store I) (k : ℕ) (h : k 
   stored-rest = rw add-one (drop-cons (I .clauses) k (clauseIn store k) h ∙ ap (λ (c : Clause). c ∷ drop (suc k) (I .clauses)) stored-get)
 
 -- ---- where the literals lie
--- the part of the store from a clause's first literal to its last
-pub codes-lent : (store : List ℕ) (k : ℕ) → take (literalsAt + endIn store k - (literalsAt + startIn store k)) (drop (literalsAt + startIn store k) store) ≡ codesIn store k
-codes-lent store k =
-    let e : literalsAt + endIn store k - (literalsAt + startIn store k) ≡ endIn store k - startIn store k = omega arith in
-    rw e
+-- the part of the store that is lent for the literals from s to e; codesIn of a clause, at its start and end
+pub codes-lent : (store : List ℕ) (s e : ℕ) → take (literalsAt + e - (literalsAt + s)) (drop (literalsAt + s) store) ≡ take (e - s) (drop (literalsAt + s) store)
+codes-lent store s e =
+    let same : literalsAt + e - (literalsAt + s) ≡ e - s = omega arith in
+    rw same
 
 module _ {store : List ℕ} {n K : ℕ} (laid : Laid store n K) where
   pub start-within : (k : ℕ) → k ≤ K → startIn store k ≤ mostLiterals

@@ -1,7 +1,7 @@
 -- Every instance that a text is read as keeps the limits, and its clauses hold no literal twice.
 use Prim.Native.Nat.{ℕ, _+_, _*_, _-_, _≤_, _<_, max}
 use mathlib.Core.Bool.{true, not, _&&_, _||_}
-use mathlib.Core.List.{List, [], _∷_, _++_}
+use mathlib.Core.List.{List, [], _∷_}
 use mathlib.Core.Option.{Option, some, none}
 use mathlib.Core.Path.{_≡_, sym, subst}
 use native.Mathlib.Omega.{arith}
@@ -26,6 +26,7 @@ use Rattle.instance.specs.Clause.{
 }
 use Rattle.instance.specs.Within.{Every, In, InBody, Weighty, Within}
 use Rattle.instance.specs.Theorems.Choices.{on-test, on-option, never, both, neither}
+use Rattle.instance.specs.Theorems.Clauses.{total-snoc}
 use Rattle.instance.specs.Theorems.Every.{every-snoc, every-map}
 use Rattle.instance.specs.Theorems.Literals.{Different, DifferentIn, different-kept}
 use Rattle.reader.specs.Lines.{Token, Line, lines}
@@ -69,7 +70,7 @@ value-grows v [] = omega arith
 value-grows v (b ∷ bs) = omega (arith, value-grows (10 * v + (b - zeroDigit)) bs)
 
 -- a number without a leading zero is at least 1
-spelled-some : (t : List ℕ) → spelled t ≡ true → 1 ≤ decimal t
+pub spelled-some : (t : List ℕ) → spelled t ≡ true → 1 ≤ decimal t
 unfolding spelled decimal allDigits digit valueFrom
 spelled-some [] h = never (sym h)
 spelled-some (b ∷ bs) h =
@@ -97,12 +98,15 @@ weighed-opens cs (soft w) light few =
     let some : w ≡ 0 → ⊥ = eqb-false w 0 (neither (eqb w 0) (ltb mostWeight w) e .0) in
     record { fewer = few; lighter = ltb-false mostWeight (totalOf cs + w) f; weighty = omega (arith, some) }
 
-pub first-opens : (cs : List Clause) (t : List ℕ) → totalOf cs ≤ mostWeight → Opening cs (firstWord cs t)
+first-opens : (cs : List Clause) (t : List ℕ) → totalOf cs ≤ mostWeight → Opening cs (firstWord cs t)
 unfolding firstWord
 first-opens cs t light =
     on-option (Opening cs) (weightSpelled t) (λ _. tt) λ w e.
     on-test (Opening cs) (leb mostClauses (length cs)) (λ _. tt) λ f.
     weighed-opens cs w light (leb-false mostClauses (length cs) f)
+
+pub first-taken : (cs : List Clause) (t : List ℕ) (w : Weight) → totalOf cs ≤ mostWeight → firstWord cs t ≡ weighs w → Opens cs w
+first-taken cs t w light e = subst (Opening cs) e (first-opens cs t light)
 
 -- what a later token was taken for
 pub record Taken (written : ℕ) (l : Literal) : Type 0 where
@@ -127,7 +131,7 @@ literal-variable (b ∷ bs) =
     (λ _. on-test Variable (spelled bs) (λ e. spelled-some bs e) (λ _. tt))
     (λ _. on-test Variable (spelled (b ∷ bs)) (λ e. spelled-some (b ∷ bs) e) (λ _. tt))
 
-pub later-holds : (written : ℕ) (t : List ℕ) → Holding written (laterWord written t)
+later-holds : (written : ℕ) (t : List ℕ) → Holding written (laterWord written t)
 unfolding laterWord
 later-holds written t =
     on-test (Holding written) (alone zeroDigit t) (λ _. tt) λ _.
@@ -140,6 +144,9 @@ later-holds written t =
       fewer = leb-false mostLiterals written g;
     }
 
+pub later-taken : (written : ℕ) (t : List ℕ) (l : Literal) → laterWord written t ≡ holds l → Taken written l
+later-taken written t l e = subst (Holding written) e (later-holds written t)
+
 -- ---- the instance so far
 pub record Sound (I : Problem) : Type 0 where
   pub within : Within I
@@ -151,11 +158,6 @@ pub record Open (I : Problem) (w : Weight) (ls : List Literal) : Type 0 where
   pub opens : Opens (I .clauses) w
   pub fits : Every (In (I .variables)) ls
   pub different : Different ls
-
-total-snoc : (cs : List Clause) (c : Clause) → totalOf (cs ++ (c ∷ [])) ≡ totalOf cs + softOf (c .weight)
-unfolding totalOf
-total-snoc [] c = omega arith
-total-snoc (d ∷ ds) c = omega (arith, total-snoc ds c)
 
 more-clauses : (n m : ℕ) → n ≤ m → (c : Clause) → InBody n (c .body) → InBody m (c .body)
 more-clauses n m h c = go (c .body)

@@ -1,0 +1,54 @@
+-- What the code's own enums say: each case in terms of the definitions.
+use Prim.Native.Nat.{ℕ}
+use mathlib.Core.Bool.{true, false, _||_}
+use mathlib.Core.List.{List}
+use mathlib.Core.Option.{Option, some, none}
+use lib.Dec.{eqb, leb, ltb}
+use Rattle.instance.specs.Limits.{mostVariables, mostLiterals, mostWeight}
+use Rattle.instance.specs.Clause.{Literal, Weight, hard, soft, variableOf}
+use Rattle.instance.specs.Store.{literalOf, weightOf}
+use Rattle.reader.specs.Numbers.{spelled, decimal}
+use Rattle.reader.specs.Words.{First, weighs, badFirst, Later, ends, holds, badLater}
+use Rattle.reader.specs.declared.numbers.Number.{Number}
+use Rattle.reader.specs.declared.words.Weight as declared
+use Rattle.reader.specs.declared.words.Spelled.{Spelled}
+use Rattle.reader.specs.declared.words.Opening.{Opening}
+use Rattle.reader.specs.declared.words.Word.{Word}
+
+-- a number with no more than a limit
+unfoldable pub numberOf : ℕ → List ℕ → Number
+numberOf limit t =
+    elim (spelled t) [
+      | false ↦ Number.Misspelled
+      | true ↦ elim (leb (decimal t) limit) [ true ↦ Number.Value (decimal t) | false ↦ Number.Over ]
+    ]
+
+-- a weight's spelling, with 5 foreseen
+unfoldable pub spelledAs : Option Weight → Spelled
+spelledAs none = Spelled.Wrong
+spelledAs (some hard) = Spelled.Right declared.Weight.Hard
+spelledAs (some (soft w)) =
+    elim (eqb w 0 || ltb mostWeight w) [
+      | true ↦ Spelled.Right declared.Weight.Out
+      | false ↦ Spelled.Right (declared.Weight.Soft w)
+    ]
+
+abbrev pub openingSays : Opening → First
+openingSays (Opening.Weight code) = weighs (weightOf code)
+openingSays (Opening.Fault n) = badFirst n
+
+-- a later token that is not the end
+unfoldable pub literalSays : ℕ → Option Literal → Later
+literalSays written o =
+    elim o [
+      | none ↦ badLater 2
+      | some l ↦ elim (ltb mostVariables (variableOf l)) [
+        | true ↦ badLater 7
+        | false ↦ elim (leb mostLiterals written) [ true ↦ badLater 8 | false ↦ holds l ]
+      ]
+    ]
+
+abbrev pub wordSays : Word → Later
+wordSays Word.End = ends
+wordSays (Word.Literal code) = holds (literalOf code)
+wordSays (Word.Fault n) = badLater n

@@ -1,0 +1,116 @@
+use crate::numbers::Number;
+use crate::numbers::read_number;
+use instance::Instance;
+ghost use mathlib.Core.Path.{_≡_};
+ghost use Prim.Native.Nat.{_+_, _*_, _<_, _≤_};
+ghost use lib.ListN.{length};
+ghost use Rattle.instance.specs.Limits.{mostWeight};
+ghost use Rattle.instance.specs.Clause.{Problem};
+ghost use Rattle.instance.specs.Store.{literalOf};
+ghost use Rattle.reader.specs.Words.{alone, weightSpelled, signed, firstWord, laterWord};
+ghost use Rattle.reader.specs.Survey.{counts};
+ghost use Rattle.reader.specs.Said.{spelledAs, openingSays, literalSays, wordSays};
+
+// A weight that is rightly spelled: hard, soft, or soft and out of the limits.
+pub enum Weight {
+    Hard,
+    Soft(u64),
+    Out,
+}
+
+pub enum Spelled {
+    Right(Weight),
+    Wrong,
+}
+
+// What a clause's first token says: its weight in the store's code, or a refusal's number.
+pub enum Opening {
+    Weight(u64),
+    Fault(u64),
+}
+
+// What a later token says: the clause's end, a literal in the store's code, or a refusal's number.
+pub enum Word {
+    End,
+    Literal(u64),
+    Fault(u64),
+}
+
+// Whether a token is this one byte.
+fn is_alone(t: &[u8], byte: u8) -> bool
+    ensures { λ r. ⌜ r ≡ alone byte (now (t .entry)) ⌝ }
+{
+    if t.len() == 1 {
+        return t[0] == byte;
+    }
+    false
+}
+
+fn weight_spelled(t: &[u8]) -> Spelled
+    ensures { λ r. ⌜ r ≡ spelledAs (weightSpelled (now (t .entry))) ⌝ }
+{
+    if is_alone(t, b'h') {
+        return Spelled::Right(Weight::Hard);
+    }
+    if is_alone(t, b'0') {
+        return Spelled::Right(Weight::Out);
+    }
+    match read_number(t, Instance::WEIGHT) {
+        Number::Value(w) => Spelled::Right(Weight::Soft(w)),
+        Number::Over => Spelled::Right(Weight::Out),
+        Number::Misspelled => Spelled::Wrong,
+    }
+}
+
+// Spelling, clause count, weight, total: in this order.
+pub fn first_word(t: &[u8], counted: Instance) -> Opening
+    requires { ⌜ counted .total ≤ mostWeight ⌝ }
+    ensures { λ r. ⌜ ((I : Problem) → counted ≡ counts I → openingSays r ≡ firstWord (I .clauses) (now (t .entry))) ⌝ }
+{
+    let Spelled::Right(weight) = weight_spelled(t) else {
+        return Opening::Fault(2);
+    };
+    if Instance::CLAUSES <= counted.clauses {
+        return Opening::Fault(4);
+    }
+    match weight {
+        Weight::Hard => Opening::Weight(0),
+        Weight::Out => Opening::Fault(5),
+        Weight::Soft(w) => {
+            if Instance::WEIGHT < counted.total + w {
+                return Opening::Fault(6);
+            }
+            Opening::Weight(w)
+        }
+    }
+}
+
+// A literal's variable, and 1 for the opposite. Spelling, variable, literal count: in this order.
+fn literal(digits: &[u8], sign: u64, written: usize) -> Word
+    requires { ⌜ sign < 2 ⌝ }
+    ensures { λ r. ⌜ wordSays r ≡ literalSays written (signed (λ x. literalOf (2 * x + sign)) (now (digits .entry))) ⌝ }
+{
+    match read_number(digits, Instance::VARIABLES) {
+        Number::Misspelled => Word::Fault(2),
+        Number::Over => Word::Fault(7),
+        Number::Value(x) => {
+            if Instance::LITERALS <= written {
+                return Word::Fault(8);
+            }
+            Word::Literal(2 * x + sign)
+        }
+    }
+}
+
+pub fn later_word(t: &[u8], written: usize) -> Word
+    requires { ⌜ 0 < length (now t) ⌝ }
+    ensures { λ r. ⌜ wordSays r ≡ laterWord written (now (t .entry)) ⌝ }
+{
+    if is_alone(t, b'0') {
+        return Word::End;
+    }
+    if t[0] == b'-' {
+        return literal(&t[1..], 1, written);
+    }
+    literal(t, 0, written)
+}
