@@ -45,4 +45,4 @@ module _ (bytes codes : List ℕ) (i : ℕ) where
 -- the part of the store between a clause's start and its end is the clause's codes
 pub part-codes : (store : List ℕ) (k s : ℕ) → s ≡ startIn store k →
     take ((literalsAt + endIn store k) - (literalsAt + s)) (drop (literalsAt + s) store) ≡ codesIn store k
-part-codes store k s e = rw e (codes-lent store k)
+part-codes store k s e = rw e (codes-lent store (startIn store k) (endIn store k))
