@@ -1,3 +1,4 @@
+pub mod Choices
 pub mod Literals
 pub mod Tallies
 pub mod Values

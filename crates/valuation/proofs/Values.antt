@@ -10,10 +10,13 @@ use lib.Seq.{drop-cons}
 use Rattle.instance.specs.Limits.{mostWeight}
 use Rattle.instance.specs.Clause.{Problem, totalOf}
 use Rattle.instance.specs.Meaning.{assigned, firstBroken, cost}
+use Rattle.instance.specs.Memory.{storeSize, ample, cleared, returned}
 use Rattle.instance.specs.Refusals.{staged}
 use Rattle.instance.specs.Store.{clausesIn, Laid, Given}
 use Rattle.instance.specs.declared.answers.Valued.{Valued}
-use Rattle.valuation.specs.Value.{firstOver, worthOf, valued}
+use Rattle.instance.specs.Theorems.Memory.{cleared-beyond}
+use Rattle.reader.specs.Reading.{read, refused, readOf}
+use Rattle.valuation.specs.Value.{firstOver, worthOf, valued, valueOf, ValueAnswers}
 use Rattle.valuation.specs.Tally.{Tallied, FirstOver}
 
 -- ---- the first byte over 1: what is left of the bytes decides
@@ -64,3 +67,25 @@ module _ (store : List ℕ) (n K : ℕ) (bytes : List ℕ) (I : Problem) (g : Gi
   worth-right i first weight e h f t =
       rw (eq-eqb (length bytes) (I .variables) (same-length e), valued, f .nowhere h)
       (ap₂ Valued.Worth (t .breaks ∙ ap (firstBroken (assigned bytes)) whole) (t .falsifies ∙ ap (cost (assigned bytes)) whole))
+
+-- ---- of a text
+module _ (text bytes : List ℕ) where
+  pub value-refused : (n p : ℕ) → readOf text ≡ refused n p → Valued.Refused (staged n p) ≡ valueOf text bytes
+  unfolding valueOf
+  value-refused n p e = rw (e, valueOf)
+
+  pub value-read : (I : Problem) → readOf text ≡ read I → valued I bytes ≡ valueOf text bytes
+  unfolding valueOf
+  value-read I e = rw (e, valueOf)
+
+  pub value-small : (store : List ℕ) (r : Valued) → length store < storeSize → r ≡ Valued.Refused (staged 1 0) → ValueAnswers text bytes store r store
+  unfolding ample returned
+  value-small store r h e = record { answer = e ∙ rw (lt-leb storeSize (length store) h); after = rw (lt-leb storeSize (length store) h, returned) }
+
+  pub value-large : (store : List ℕ) (r : Valued) (store₁ store₂ : List ℕ) → storeSize ≤ length store → r ≡ valueOf text bytes →
+      drop storeSize store₁ ≡ drop storeSize store → store₂ ≡ cleared storeSize store₁ → ValueAnswers text bytes store r store₂
+  unfolding ample returned
+  value-large store r store₁ store₂ h e f g = record {
+    answer = e ∙ rw (le-leb storeSize (length store) h);
+    after = g ∙ cleared-beyond storeSize store₁ store f ∙ rw (le-leb storeSize (length store) h, returned);
+  }

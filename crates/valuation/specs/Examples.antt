@@ -7,7 +7,9 @@ use Rattle.instance.specs.Meaning.{assigned, holds, falsified, broken, fine, pr
 use Rattle.reader.specs.Examples.{told}
 use Rattle.reader.specs.Quoted.{text, sheetPair}
 use Rattle.valuation.specs.Value.{firstOver, worthOf, valued, valueOf}
-use Rattle.valuation.specs.Better.{Choice, one, two, neither, beats, chosen, betterOf}
+use Rattle.valuation.specs.Better.{beats, chosen, betterOf}
+use Rattle.valuation.specs.declared.choosing.Choice.{Choice}
+use Rattle.valuation.specs.declared.choosing.Choice.the-variants.{First, Second, Neither}
 
 -- Whoever names `valueTells` on an `unfolding` line opens reading and Value.
 unfoldable pub valueTells : List ℕ → Told
@@ -32,6 +34,6 @@ choices-hold :
     better (1 ∷ 0 ∷ []) (0 ∷ 1 ∷ []) ∷ better (0 ∷ 1 ∷ []) (1 ∷ 0 ∷ []) ∷ better (0 ∷ 1 ∷ []) (0 ∷ 1 ∷ []) ∷
     better (0 ∷ 0 ∷ []) (1 ∷ 1 ∷ []) ∷ better (1 ∷ 1 ∷ []) (0 ∷ 0 ∷ []) ∷ better (0 ∷ 0 ∷ []) (0 ∷ 0 ∷ []) ∷
     better (0 ∷ 1 ∷ []) (0 ∷ []) ∷ better (2 ∷ 1 ∷ []) (0 ∷ 1 ∷ []) ∷ [] ≡
-    two ∷ one ∷ one ∷ two ∷ one ∷ one ∷ neither ∷ neither ∷ []
+    Second ∷ First ∷ First ∷ Second ∷ First ∷ First ∷ Neither ∷ Neither ∷ []
 unfolding better
 choices-hold = refl

@@ -1,10 +1,17 @@
+use crate::fake::read;
 use crate::tally::tallied;
+use instance::STORE;
+use instance::Surveyed;
 use instance::Valued;
+use instance::clear;
 use instance::refusal;
 ghost use mathlib.Core.Path.{_≡_};
+ghost use Prim.Native.Nat.{_≤_};
+ghost use lib.ListN.{length, drop};
 ghost use Rattle.instance.specs.Clause.{Problem};
+ghost use Rattle.instance.specs.Memory.{storeSize};
 ghost use Rattle.instance.specs.Store.{Given};
-ghost use Rattle.valuation.specs.Value.{valued as valuedOf};
+ghost use Rattle.valuation.specs.Value.{valued as valuedOf, valueOf, ValueAnswers};
 ghost use Rattle.valuation.specs.Tally.{FirstOver};
 
 // The index of the first byte over 1, or the length where there is none.
@@ -35,4 +42,29 @@ pub fn valued(store: &[u64], n: u64, clauses: usize, bytes: &[u8]) -> Valued
     }
     let t = tallied(store, clauses, bytes);
     Valued::Worth(t.first, t.weight)
+}
+
+// The value, with the instance left in the store.
+fn value_left(text: &[u8], bytes: &[u8], store: &mut [u64]) -> Valued
+    requires { ⌜ storeSize ≤ length (now store) ⌝ }
+    ensures { λ r. ⌜ r ≡ valueOf (now (text .entry)) (now (bytes .entry)) ⌝ }
+    ensures { λ _. ⌜ drop storeSize (now (store .exit)) ≡ drop storeSize (now (store .entry)) ⌝ }
+    ensures { λ _. ⌜ length (now (store .exit)) ≡ length (now (store .entry)) ⌝ }
+{
+    match read(text, store) {
+        Surveyed::Counted(i) => valued(store, i.variables, i.clauses, bytes),
+        Surveyed::Refused(s) => Valued::Refused(s),
+    }
+}
+
+// Value: the first broken hard clause (0 if none), and the soft weight falsified.
+pub fn value(text: &[u8], bytes: &[u8], store: &mut [u64]) -> Valued
+    ensures { λ r. ⌜ ValueAnswers (now (text .entry)) (now (bytes .entry)) (now (store .entry)) r (now (store .exit)) ⌝ }
+{
+    if store.len() < STORE {
+        return Valued::Refused(refusal(1, 0));
+    }
+    let answer = value_left(text, bytes, store);
+    clear(store, STORE);
+    answer
 }
