@@ -3,7 +3,6 @@ pub mod Numbers
 pub mod Words
 pub mod Reading
 pub mod Survey
-pub mod Promise
 pub mod Quoted
 pub mod Examples
 pub mod Spans

@@ -1,10 +1,9 @@
-use crate::fake::read;
 use crate::valuing::valued;
 use instance::STORE;
 use instance::Surveyed;
 use instance::Valued;
 use instance::clear;
-
+use reader::read;
 ghost use mathlib.Core.Path.{_≡_};
 ghost use Prim.Native.Nat.{_≤_};
 ghost use lib.ListN.{length, drop};

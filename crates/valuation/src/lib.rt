@@ -1,9 +1,9 @@
 // What assignments are worth, and which of two is the cheaper.
 mod choosing;
 mod falsify;
-mod fake;
 mod tally;
 mod valuing;
+
 pub use choosing::Choice;
 pub use choosing::better;
 pub use valuing::value;
