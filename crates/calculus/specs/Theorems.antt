@@ -19,5 +19,6 @@ pub mod Length
 pub mod Paths
 pub mod Mass
 pub mod Agree
+pub mod Reckoned
 pub mod Words
 pub mod Broken

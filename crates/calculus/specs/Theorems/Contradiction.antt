@@ -1,9 +1,9 @@
 -- A contradiction is fair.
-use Prim.Native.Nat.{ℕ, _+_, _-_, _≤_, min}
+use Prim.Native.Nat.{ℕ, _+_, _-_, _≤_}
 use mathlib.Core.Bool.{Bool, true, false, not}
-use mathlib.Core.List.{List, [], _∷_}
+use mathlib.Core.List.{[], _∷_}
 use mathlib.Core.Option.{some}
-use mathlib.Core.Path.{_≡_, refl}
+use mathlib.Core.Path.{_≡_}
 use native.Mathlib.Omega.{arith}
 use Rattle.instance.specs.Clause.{Literal, pos, neg, variableOf, same, opposite}
 use Rattle.instance.specs.Meaning.{Assignment, holds}
@@ -11,7 +11,7 @@ use Rattle.instance.specs.Within.{In}
 use Rattle.calculus.specs.Branch.{Branch, setWeight, book, kill}
 use Rattle.calculus.specs.Theorems.Basics.{due}
 use Rattle.calculus.specs.Theorems.Literals.{opposite-holds, opposite-in}
-use Rattle.calculus.specs.Theorems.Steps.{Contradiction, bothHard, oneHard, bothSoft, noWeight, noPair}
+use Rattle.calculus.specs.Theorems.Steps.{Contradiction, bothHard, oneHard, bothSoft}
 use Rattle.calculus.specs.Theorems.Worth.{raw, worth, least, raw-book, raw-kill, raw-set, raw-marked}
 use Rattle.calculus.specs.Theorems.Fair.{Sane, Fair}
 

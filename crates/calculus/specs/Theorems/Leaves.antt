@@ -131,11 +131,11 @@ enter-leaves w (clause (l ∷ [])) b =
     unfold countOf branching several in (omega (arith, leaves-spent (clause (l ∷ [])) (unitOf w l b), ap leaves ((unit-leaves w l b) .rules)))
 enter-leaves w (clause (l ∷ k ∷ ks)) b =
     unfold keep withRules in (
-      omega (
-        arith,
-        fold-snoc _*_ mul-left-comm 1 (unspent 1 countOf) (b .rules) (record { weight = w; body = clause (l ∷ k ∷ ks) }),
-        mul-le-mul-right (leaves (b .rules)) (unspent-most 1 countOf (record { weight = w; body = clause (l ∷ k ∷ ks) }) (countOf-some (clause (l ∷ k ∷ ks)))),
-      ))
+    omega (
+      arith,
+      fold-snoc _*_ mul-left-comm 1 (unspent 1 countOf) (b .rules) (record { weight = w; body = clause (l ∷ k ∷ ks) }),
+      mul-le-mul-right (leaves (b .rules)) (unspent-most 1 countOf (record { weight = w; body = clause (l ∷ k ∷ ks) }) (countOf-some (clause (l ∷ k ∷ ks)))),
+    ))
 
 rootFrom-leaves : (b : Branch) (cs : List Clause) → leaves ((rootFrom b cs) .rules) ≤ productOf cs * leaves (b .rules)
 unfolding rootFrom productOf

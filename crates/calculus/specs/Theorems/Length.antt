@@ -1,7 +1,6 @@
 -- Demand 3 over records: with room for P * (3 * K + 4) + 6 bytes Write writes a derivation of a true claim, of at most
 -- P * (K + 2) - 1 records after the claim, that Check accepts.
 use Prim.Native.Nat.{ℕ, suc, _+_, _-_, _*_, _<_, _≤_}
-use mathlib.Core.Bool.{true, false}
 use mathlib.Core.List.{List, [], _∷_, _++_, map}
 use mathlib.Core.Option.{some}
 use mathlib.Core.Path.{_≡_, refl, ap}
@@ -20,7 +19,7 @@ use Rattle.calculus.specs.Bounds.{productOf, bytesOf, InRange}
 use Rattle.calculus.specs.Branch.{Branch, put, root}
 use Rattle.calculus.specs.Claims.{True, Refutes}
 use Rattle.calculus.specs.Derivation.{whole, size, walk}
-use Rattle.calculus.specs.Writing.{Move, Draft, wrote, noRoom, stuck, also, writeFrom, found}
+use Rattle.calculus.specs.Writing.{Draft, wrote, noRoom, stuck, also, writeFrom, found}
 use Rattle.calculus.specs.Theorems.Basics.{clash, every-append, every-weaken}
 use Rattle.calculus.specs.Theorems.Sum.{fold, sumOf, sum-append}
 use Rattle.calculus.specs.Theorems.Fair.{Sane}
@@ -86,7 +85,7 @@ module _ (a n : ℕ) where
         arith,
         fees-gross b,
         branches-fees (leaves ((put i (soft 0) b) .rules)) (potential n b) bs
-        (every-weaken (λ d (g : Gained (put i (soft 0) b) d). ap leaves (g .rules)) bs (extension-leaves b i c bs x)) (extend-potential n b i c bs s e x),
+            (every-weaken (λ d (g : Gained (put i (soft 0) b) d). ap leaves (g .rules)) bs (extension-leaves b i c bs x)) (extend-potential n b i c bs s e x),
         whole,
         mul-le-mul-right a (parts .two),
       )

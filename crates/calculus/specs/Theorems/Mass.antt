@@ -1,10 +1,9 @@
 -- No number on a branch passes the total soft weight: booked cost, unit weights and the weight not extended never grow together,
 -- and at the root they are the total.
-use Prim.Native.Nat.{ℕ, _+_, _-_, _≤_, min}
-use mathlib.Core.Bool.{Bool, true, false}
-use mathlib.Core.List.{List, [], _∷_, _++_, map}
+use Prim.Native.Nat.{ℕ, _+_, _-_, _≤_}
+use mathlib.Core.List.{List, [], _∷_, _++_}
 use mathlib.Core.Option.{some}
-use mathlib.Core.Path.{_≡_, refl, sym, _∙_}
+use mathlib.Core.Path.{_≡_, refl}
 use native.Mathlib.Nat.{add-left-comm}
 use native.Mathlib.Omega.{arith}
 use Rattle.instance.specs.Clause.{Literal, pos, neg, Weight, hard, soft, Body, clause, Clause, Problem, variableOf, same, clauseAt, softOf, totalOf}
@@ -30,30 +29,19 @@ use Rattle.calculus.specs.Branch.{
   enter,
   rootFrom,
   root,
-  branches,
 }
 use Rattle.calculus.specs.Paths.{Path}
-use Rattle.calculus.specs.Theorems.Basics.{every-at, every-join}
+use Rattle.calculus.specs.Theorems.Basics.{every-among, every-join}
 use Rattle.calculus.specs.Theorems.Sum.{fold, sumOf, fold-snoc, fold-put}
 use Rattle.calculus.specs.Theorems.Literals.{litSum, litSum-zero, litSum-ge, litSum-weight}
-use Rattle.calculus.specs.Theorems.Fair.{Whole, Sane}
+use Rattle.calculus.specs.Theorems.Fair.{Sane, literals-in}
 use Rattle.calculus.specs.Theorems.Paths.{path-kept}
 use Rattle.calculus.specs.Theorems.Root.{Covered, sane-root}
 use Rattle.calculus.specs.Theorems.Sound.{stepped-sane}
-use Rattle.calculus.specs.Theorems.Steps.{single, Contradiction, bothHard, oneHard, bothSoft, Extension, opens, Stepped, closed, contradicted, extended}
+use Rattle.calculus.specs.Theorems.Steps.{Contradiction, bothHard, oneHard, bothSoft, Extension, opens, branches-each, Stepped, closed, contradicted, extended}
 
 unfoldable pub mass : ℕ → Branch → ℕ
 mass n b = b .booked + litSum n (b .weight) + totalOf (b .rules)
-
--- ---- what it bounds
-module _ (n : ℕ) (b : Branch) where
-  pub booked-mass : b .booked ≤ mass n b
-  unfolding mass
-  booked-mass = omega arith
-
-  pub weight-mass : (l : Literal) → In n l → b .weight l ≤ mass n b
-  unfolding mass
-  weight-mass l h = omega (arith, litSum-ge n (b .weight) l h)
 
 -- ---- the total of clauses
 softWeight : Clause → ℕ
@@ -71,6 +59,20 @@ total-snoc cs c = omega (arith, total-sum cs, total-sum (cs ++ (c ∷ [])), fold
 total-put : (cs : List Clause) (i : ℕ) (c : Clause) (w : Weight) → clauseAt cs i ≡ some c → totalOf (putAt cs i w) + softOf (c .weight) ≡ totalOf cs + softOf w
 unfolding softWeight
 total-put cs i c w e = omega (arith, total-sum cs, total-sum (putAt cs i w), fold-put _+_ add-left-comm 0 softWeight cs i c w e)
+
+-- ---- what it bounds
+module _ (n : ℕ) (b : Branch) where
+  pub booked-mass : b .booked ≤ mass n b
+  unfolding mass
+  booked-mass = omega arith
+
+  pub weight-mass : (l : Literal) → In n l → b .weight l ≤ mass n b
+  unfolding mass
+  weight-mass l h = omega (arith, litSum-ge n (b .weight) l h)
+
+  pub clause-mass : (i : ℕ) (c : Clause) → clauseAt (b .rules) i ≡ some c → softOf (c .weight) ≤ mass n b
+  unfolding mass
+  clause-mass i c e = unfold softOf in (omega (arith, total-put (b .rules) i c (soft 0) e))
 
 module _ (n : ℕ) where
   -- ---- the single changes
@@ -103,24 +105,24 @@ module _ (n : ℕ) where
   contradict-mass x b d lo hi (oneHard l v m w) = omega (arith, mass-book (b .weight l) (setWeight l 0 b), mass-set l 0 b (rw v (lo, hi)))
   contradict-mass x b d lo hi (bothSoft s e p) =
       unfold setWeight same in (
-        omega (
-          arith,
-          mass-book s (setWeight (pos x) (b .weight (pos x) - s) (setWeight (neg x) (b .weight (neg x) - s) b)),
-          mass-set (neg x) (b .weight (neg x) - s) b (lo, hi),
-          mass-set (pos x) (b .weight (pos x) - s) (setWeight (neg x) (b .weight (neg x) - s) b) (lo, hi),
-        ))
-
-  branches-mass : (w : Weight) (ls : List Literal) (b : Branch) (v : ℕ) → Every (In n) ls → mass n b + softOf w ≤ v → Every (λ d. mass n d ≤ v) (branches w (map single ls) b)
-  unfolding branches gain
-  branches-mass w [] b v h l = tt
-  branches-mass w (k ∷ ks) b v h l = (omega (arith, mass-unit w k b (h .0)), branches-mass w ks b v (h .1) l)
+      omega (
+        arith,
+        mass-book s (setWeight (pos x) (b .weight (pos x) - s) (setWeight (neg x) (b .weight (neg x) - s) b)),
+        mass-set (neg x) (b .weight (neg x) - s) b (lo, hi),
+        mass-set (pos x) (b .weight (pos x) - s) (setWeight (neg x) (b .weight (neg x) - s) b) (lo, hi),
+      ))
 
   extend-mass : (b : Branch) (i : ℕ) (c : Clause) (bs : List Branch) → Sane n b → clauseAt (b .rules) i ≡ some c → Extension b i c (some bs) →
       Every (λ d. mass n d ≤ mass n b) bs
   extend-mass b i c bs s e (opens l k ks q t u) =
-      branches-mass (c .weight) (l ∷ k ∷ ks) (put i (soft 0) b) (mass n b) (rw q at ((every-at (Whole n) (b .rules) i c s e) .within)) spent-mass
+      branches-each (λ d. mass n d ≤ mass n b) (c .weight) (put i (soft 0) b) (l ∷ k ∷ ks) (λ j m.
+      omega (
+        arith,
+        spent-mass,
+        mass-unit (c .weight) j (put i (soft 0) b) (every-among (In n) (l ∷ k ∷ ks) (literals-in n b i c (l ∷ k ∷ ks) s e q) m),
+      ))
     where
-      spent-mass : mass n (put i (soft 0) b) + softOf (c .weight) ≤ mass n b
+      spent-mass : mass n (put i (soft 0) b) + softOf (c .weight) ≡ mass n b
       spent-mass = unfold mass put withRules softOf in (omega (arith, total-put (b .rules) i c (soft 0) e))
 
   -- ---- the root

@@ -1,12 +1,10 @@
 -- Every branch keeps the K clauses under their numbers, so that Write names only clauses and variables that there are.
 use Prim.Native.Nat.{ℕ, zero, suc, _+_}
-use mathlib.Core.Bool.{Bool, true, false}
-use mathlib.Core.List.{List, [], _∷_, _++_}
-use mathlib.Core.Option.{some}
+use mathlib.Core.List.{List, [], _∷_}
 use mathlib.Core.Path.{_≡_, refl, ap, _∙_}
 use native.Mathlib.Omega.{arith}
 use lib.ListN.{length, length-append}
-use Rattle.instance.specs.Clause.{Literal, Weight, soft, Body, clause, Clause, Problem}
+use Rattle.instance.specs.Clause.{Weight, soft, Body, clause, Clause, Problem}
 use Rattle.instance.specs.Within.{Every}
 use Rattle.instance.specs.declared.answers.Claim.{Claim}
 use Rattle.calculus.specs.declared.Record.{Record}

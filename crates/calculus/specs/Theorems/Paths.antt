@@ -1,25 +1,24 @@
 -- Along a path: what every record keeps, and at most K extensions and at most K contradictions.
 use Prim.Native.Nat.{ℕ, suc, _+_, _≤_}
-use mathlib.Core.List.{List, [], _∷_, List·Memᴰ as Among}
-use mathlib.Core.Option.{some}
+use mathlib.Core.List.{List}
 use mathlib.Core.Path.{_≡_, ap}
 use native.Mathlib.Omega.{arith}
 use lib.ListN.{length}
-use Rattle.instance.specs.Clause.{Literal, soft, Clause, Problem, clauseAt}
-use Rattle.instance.specs.Within.{Every, In, Fits}
+use Rattle.instance.specs.Clause.{soft, Problem}
+use Rattle.instance.specs.Within.{Every, Fits}
 use Rattle.instance.specs.declared.answers.Claim.{Claim}
 use Rattle.calculus.specs.declared.Record.{Record}
 use Rattle.calculus.specs.declared.Record.the-variants.{E, C}
-use Rattle.calculus.specs.Branch.{Branch, root, put, gain, branches}
+use Rattle.calculus.specs.Branch.{Branch, root, put}
 use Rattle.calculus.specs.Paths.{Path, start, extends, contradicts}
 use Rattle.calculus.specs.Theorems.Basics.{every-among, every-join}
-use Rattle.calculus.specs.Theorems.Fair.{Whole, Sane}
+use Rattle.calculus.specs.Theorems.Fair.{Sane}
 use Rattle.calculus.specs.Theorems.Leaves.{remaining, extension-remaining}
 use Rattle.calculus.specs.Theorems.Numbers.{Full, root-count, stepped-full}
 use Rattle.calculus.specs.Theorems.Potential.{potential, remaining-potential, contradict-potential, extend-potential, root-potential}
 use Rattle.calculus.specs.Theorems.Root.{sane-root}
 use Rattle.calculus.specs.Theorems.Sound.{stepped-sane}
-use Rattle.calculus.specs.Theorems.Steps.{Extension, opens, Stepped, contradicted, extended, went}
+use Rattle.calculus.specs.Theorems.Steps.{Stepped, contradicted, extended, went}
 use Rattle.calculus.specs.Theorems.Unchanged.{Gained, contradiction-leaves, extension-leaves}
 
 module _ (I : Problem) (k : Claim) where
@@ -50,11 +49,13 @@ module _ (I : Problem) (k : Claim) where
       }) bs (extension-leaves b i r bs x) (extend-potential (I .variables) b i r bs s p x)
 
   contradicts-within : (x : ℕ) (b : Branch) (bs : List Branch) (e c : ℕ) → Stepped I k b (C x) bs → Within b e c → Every (λ d. Within d e (suc c)) bs
-  contradicts-within x b bs e c (contradicted {b′ = d} _ a lo hi y) w =
-      (record {
-        extensions = omega (arith, w .extensions, ap remaining ((contradiction-leaves x b d y) .rules));
-        contradictions = omega (arith, w .contradictions, contradict-potential (I .variables) x b d lo hi a y);
-      }, tt)
+  contradicts-within x b bs e c (contradicted {b′ = d} _ a lo hi y) w = (
+    record {
+      extensions = omega (arith, w .extensions, ap remaining ((contradiction-leaves x b d y) .rules));
+      contradictions = omega (arith, w .contradictions, contradict-potential (I .variables) x b d lo hi a y);
+    },
+    tt,
+  )
 
   pub path-within : Fits I → {b : Branch} {e c : ℕ} → Path I k b e c → Within b e c
   path-within fits start =

@@ -2,7 +2,7 @@
 -- clauses that are not spent. At the root that is at most K.
 use Prim.Native.Nat.{ℕ, zero, suc, _+_, _-_, _<_, _≤_, min}
 use mathlib.Core.Bool.{Bool, true, false, not}
-use mathlib.Core.List.{List, [], _∷_, _++_, map}
+use mathlib.Core.List.{List, [], _∷_, _++_}
 use mathlib.Core.Option.{some}
 use mathlib.Core.Path.{_≡_, refl}
 use native.Mathlib.Decide.{decLe}
@@ -30,15 +30,14 @@ use Rattle.calculus.specs.Branch.{
   rootFrom,
   root,
   spent,
-  branches,
 }
-use Rattle.calculus.specs.Theorems.Basics.{due, every-at}
+use Rattle.calculus.specs.Theorems.Basics.{due, every-among}
 use Rattle.calculus.specs.Theorems.Sum.{fold}
 use Rattle.calculus.specs.Theorems.Literals.{litSum, litSum-zero, litSum-ge, litSum-weight, litSum-mark}
-use Rattle.calculus.specs.Theorems.Fair.{Whole, Sane}
+use Rattle.calculus.specs.Theorems.Fair.{Sane, literals-in}
 use Rattle.calculus.specs.Theorems.Leaves.{remaining, remaining-put, remaining-keep, remaining-spent}
 use Rattle.calculus.specs.Theorems.Root.{Covered}
-use Rattle.calculus.specs.Theorems.Steps.{single, Contradiction, bothHard, oneHard, bothSoft, Extension, opens}
+use Rattle.calculus.specs.Theorems.Steps.{Contradiction, bothHard, oneHard, bothSoft, Extension, opens, branches-each}
 
 -- 1 for a weight
 positive : ℕ → ℕ
@@ -119,31 +118,29 @@ module _ (n : ℕ) where
       unfold positive in (omega (arith, weighted-set l 0 b (rw v (lo, hi)), positive-is (b .weight l) w))
   contradict-potential x b d lo hi q (bothSoft s e p) =
       unfold same in (
-        omega (
-          arith,
-          weighted-set (neg x) (b .weight (neg x) - s) b (lo, hi),
-          weighted-set (pos x) (b .weight (pos x) - s) (setWeight (neg x) (b .weight (neg x) - s) b) (lo, hi),
-          positive-is (b .weight (pos x)) (omega arith),
-          positive-is (b .weight (neg x)) (omega arith),
-          rw (← e) at (positive-rest (b .weight (pos x)) (b .weight (neg x))),
-        ))
+      omega (
+        arith,
+        weighted-set (neg x) (b .weight (neg x) - s) b (lo, hi),
+        weighted-set (pos x) (b .weight (pos x) - s) (setWeight (neg x) (b .weight (neg x) - s) b) (lo, hi),
+        positive-is (b .weight (pos x)) (omega arith),
+        positive-is (b .weight (neg x)) (omega arith),
+        rw (← e) at (positive-rest (b .weight (pos x)) (b .weight (neg x))),
+      ))
 
   -- an extension takes a clause away and brings a unit
   put-potential : (b : Branch) (i : ℕ) (c : Clause) → clauseAt (b .rules) i ≡ some c → spent (c .weight) ≡ false → 1 + potential n (put i (soft 0) b) ≡ potential n b
   unfolding put withRules
   put-potential b i c e u = omega (arith, rules-potential (putAt (b .rules) i (soft 0)) b, remaining-put b i c e u)
 
-  branches-potential : (w : Weight) (b : Branch) (v : ℕ) → 1 + potential n b ≡ v → (ls : List Literal) → Every (In n) ls →
-      Every (λ d. potential n d ≤ v) (branches w (map single ls) b)
-  unfolding branches gain
-  branches-potential w b v e [] h = tt
-  branches-potential w b v e (l ∷ ls) h = (omega (arith, unit-potential w l b (h .0)), branches-potential w b v e ls (h .1))
-
   pub extend-potential : (b : Branch) (i : ℕ) (c : Clause) (bs : List Branch) → Sane n b → clauseAt (b .rules) i ≡ some c → Extension b i c (some bs) →
       Every (λ d. potential n d ≤ potential n b) bs
   extend-potential b i c bs s e (opens l k ks q t u) =
-      branches-potential (c .weight) (put i (soft 0) b) (potential n b) (put-potential b i c e u) (l ∷ k ∷ ks)
-      (rw q at ((every-at (Whole n) (b .rules) i c s e) .within))
+      branches-each (λ d. potential n d ≤ potential n b) (c .weight) (put i (soft 0) b) (l ∷ k ∷ ks) (λ j m.
+      omega (
+        arith,
+        put-potential b i c e u,
+        unit-potential (c .weight) j (put i (soft 0) b) (every-among (In n) (l ∷ k ∷ ks) (literals-in n b i c (l ∷ k ∷ ks) s e q) m),
+      ))
 
   -- ---- the root
   keep-potential : (w : Weight) (p : Body) (b : Branch) → potential n (keep w p b) + remaining (b .rules) ≡ potential n b + remaining ((keep w p b) .rules)

@@ -1,10 +1,10 @@
 -- What the root is worth: what the clauses come to.
-use Prim.Native.Nat.{ℕ, suc, _+_, _<_, min}
-use mathlib.Core.Bool.{Bool, true, false, not, _&&_, and-eq-true-iff}
+use Prim.Native.Nat.{ℕ, _+_, _<_, min}
+use mathlib.Core.Bool.{Bool, true, false, not, and-eq-true-iff}
 use mathlib.Core.List.{List, [], _∷_}
 use mathlib.Core.Path.{_≡_, refl}
 use native.Mathlib.Omega.{arith}
-use Rattle.instance.specs.Clause.{Literal, Weight, hard, soft, Body, Clause}
+use Rattle.instance.specs.Clause.{Weight, hard, soft, Body, Clause}
 use Rattle.instance.specs.Meaning.{Assignment, holds, broken, fine, feasible, priced, cost}
 use Rattle.instance.specs.Within.{Every, InBody}
 use Rattle.calculus.specs.Branch.{Branch, blank, keep, gain, numbered, enter, rootFrom, root}

@@ -18,7 +18,7 @@ use Rattle.calculus.specs.Branch.{Branch, root}
 use Rattle.calculus.specs.Claims.{True}
 use Rattle.calculus.specs.Derivation.{Item, closable, walk}
 use Rattle.calculus.specs.Theorems.Basics.{tests, due, every-append}
-use Rattle.calculus.specs.Theorems.Worth.{bill, units, raw, worth, least}
+use Rattle.calculus.specs.Theorems.Worth.{bill, units, raw, least}
 use Rattle.calculus.specs.Theorems.Fair.{Sane, Fair}
 use Rattle.calculus.specs.Theorems.Extension.{extend-fair}
 use Rattle.calculus.specs.Theorems.Contradiction.{contradict-fair}

@@ -1,13 +1,14 @@
 -- What the rules and the records do, a case for each: the tests of the definitions are gone through here and nowhere else.
 use Prim.Native.Nat.{ℕ, _-_, _<_, _≤_, min}
 use mathlib.Core.Bool.{Bool, true, false, not, _&&_, and-eq-true-iff}
-use mathlib.Core.List.{List, [], _∷_, map}
+use mathlib.Core.List.{List, [], _∷_, map, List·Memᴰ as Among, List·Memᴰ·head, List·Memᴰ·tail}
 use mathlib.Core.Option.{Option, some, none}
 use mathlib.Core.Path.{_≡_, refl, subst, _∙_}
 use native.Mathlib.Omega.{arith}
 use lib.Dec.{leb, ltb}
 use borrow.Author.Tests.{leb-true, ltb-true, le-leb}
-use Rattle.instance.specs.Clause.{Literal, pos, neg, soft, Body, clause, Clause, Problem, variableOf, opposite, tautology, clauseAt}
+use Rattle.instance.specs.Clause.{Literal, pos, neg, Weight, soft, Body, clause, Clause, Problem, variableOf, opposite, tautology, clauseAt}
+use Rattle.instance.specs.Within.{Every}
 use Rattle.instance.specs.declared.answers.Claim.{Claim}
 use Rattle.calculus.specs.declared.Record.{Record}
 use Rattle.calculus.specs.declared.Record.the-variants.{E, C, Q}
@@ -17,6 +18,8 @@ use Rattle.calculus.specs.Branch.{
   book,
   kill,
   put,
+  unitOf,
+  gain,
   several,
   spent,
   disjuncts,
@@ -99,6 +102,13 @@ extension b i c = by (spent (c .weight)) refl (c .body) refl
             Extension b i c (extendBy (c .weight) (elim (not t) as (λ _. Option (List Body)) [ true ↦ some (map single (l ∷ k ∷ ks)) | false ↦ none ]) (put i (soft 0) b))
         test true e = twofold (l ∷ k ∷ ks) q e
         test false e = opens l k ks q e u
+
+-- what holds of each unit gained holds of the branches
+pub branches-each : (P : Branch → Type 0) (w : Weight) (b : Branch) (ls : List Literal) → ((l : Literal) → Among l ls → P (unitOf w l b)) →
+    Every P (branches w (map single ls) b)
+unfolding branches gain
+branches-each P w b [] h = tt
+branches-each P w b (l ∷ ls) h = (h l (List·Memᴰ·head refl), branches-each P w b ls (λ k m. h k (List·Memᴰ·tail m)))
 
 -- ---- a record that is not refused
 pub data Stepped (I : Problem) (k : Claim) (b : Branch) : Record → List Branch → Type 0 where

@@ -1,21 +1,21 @@
 -- Refusal 22: a branch on which nothing is allowed gives an assignment that refutes the claim.
 use Prim.Native.Nat.{ℕ, zero, suc, _+_, _≤_, _<_, min}
 use mathlib.Core.Bool.{Bool, true, false, not, _&&_, _||_, and-false}
-use mathlib.Core.List.{List, [], _∷_, _++_, map}
+use mathlib.Core.List.{List, [], _∷_, map}
 use mathlib.Core.Option.{Option, some, none}
 use mathlib.Core.Path.{_≡_, refl, sym, subst, _∙_}
 use native.Mathlib.Omega.{arith}
 use native.Mathlib.Decide.{ℕ-discrete}
 use lib.Dec.{leb, ltb}
 use lib.ListN.{length}
-use Rattle.instance.specs.Clause.{Literal, pos, neg, Weight, hard, soft, Body, clause, Clause, Problem, variableOf, same, opposite, occurs, tautology, clauseAt}
-use Rattle.instance.specs.Meaning.{Assignment, holds, falsified, broken, feasible, cost}
+use Rattle.instance.specs.Clause.{Literal, pos, neg, Weight, hard, soft, Clause, Problem, variableOf, same, opposite, occurs, tautology, clauseAt}
+use Rattle.instance.specs.Meaning.{Assignment, holds, falsified, broken, feasible}
 use Rattle.instance.specs.Within.{Every, In, Fits}
 use Rattle.instance.specs.declared.answers.Claim.{Claim}
 use Rattle.instance.specs.declared.answers.Claim.the-variants.{Minimum, Infeasible}
 use Rattle.calculus.specs.declared.Record.{Record}
-use Rattle.calculus.specs.declared.Record.the-variants.{E, C, Q}
-use Rattle.calculus.specs.Branch.{Branch, several, numbered, spent, extend, contradict, root}
+use Rattle.calculus.specs.declared.Record.the-variants.{E, C}
+use Rattle.calculus.specs.Branch.{Branch, numbered, spent, extend, contradict, root}
 use Rattle.calculus.specs.Claims.{Below, Refutes}
 use Rattle.calculus.specs.Derivation.{Step, stop, go, closable, closing, offered, settled, step}
 use Rattle.calculus.specs.Writing.{from, candidates, Move, first, Draft, wrote, noRoom, stuck, also, writeFrom, found}
@@ -37,7 +37,7 @@ use Rattle.calculus.specs.Theorems.Steps.{
   step-extends,
 }
 use Rattle.calculus.specs.Theorems.Worth.{toll, charge, bill, unitToll, units, raw, worth, least}
-use Rattle.calculus.specs.Theorems.Fair.{Whole, Sane, Fair}
+use Rattle.calculus.specs.Theorems.Fair.{Whole, Sane}
 use Rattle.calculus.specs.Theorems.Root.{root-worth, bill-cost, bill-feasible, sane-root}
 use Rattle.calculus.specs.Theorems.Sound.{Caps, stepped-fair, stepped-sane}
 use Rattle.calculus.specs.Theorems.Written.{write-kept}

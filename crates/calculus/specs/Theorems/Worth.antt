@@ -1,18 +1,18 @@
 -- What a branch is worth to an assignment: booked cost and falsified live weight, capped at H, where a falsified hard clause, a
 -- hard mark that is not met, and a dead branch each come to H.
-use Prim.Native.Nat.{ℕ, suc, _+_, _≤_, min}
-use mathlib.Core.Bool.{Bool, true, false, not, _&&_, and-true}
+use Prim.Native.Nat.{ℕ, _+_, _≤_, min}
+use mathlib.Core.Bool.{Bool, true, false, not, and-true}
 use mathlib.Core.List.{List, [], _∷_}
 use mathlib.Core.Option.{some}
-use mathlib.Core.Path.{_≡_, refl, ap}
+use mathlib.Core.Path.{_≡_}
 use native.Mathlib.Nat.{add-left-comm}
 use native.Mathlib.Omega.{arith}
 use Rattle.instance.specs.Clause.{Literal, Weight, hard, soft, Body, clause, Clause, clauseAt}
 use Rattle.instance.specs.Meaning.{Assignment, holds, falsified, broken}
 use Rattle.instance.specs.Within.{In, InBody}
 use Rattle.calculus.specs.Branch.{Branch, setWeight, mark, book, kill, withRules, keep, put, unitOf, nothing, gain}
-use Rattle.calculus.specs.Theorems.Basics.{due, due-zero}
-use Rattle.calculus.specs.Theorems.Sum.{fold, sumOf, fold-snoc, fold-put}
+use Rattle.calculus.specs.Theorems.Basics.{due}
+use Rattle.calculus.specs.Theorems.Sum.{sumOf, fold-snoc, fold-put}
 use Rattle.calculus.specs.Theorems.Literals.{litSum, litSum-ge, litSum-weight, litSum-mark}
 
 -- what a falsified clause comes to
@@ -111,7 +111,7 @@ module _ (H n : ℕ) (σ : Assignment) where
   raw-put i c w b e = omega (arith, fold-put _+_ add-left-comm 0 (charge H σ) (b .rules) i c w e)
 
   -- ---- a clause gained
-  adds-unit : (w : Weight) (l : Literal) (b : Branch) → In n l → Adds (due (not (holds σ l)) (toll H w)) b (unitOf w l b)
+  pub adds-unit : (w : Weight) (l : Literal) (b : Branch) → In n l → Adds (due (not (holds σ l)) (toll H w)) b (unitOf w l b)
   unfolding unitOf toll
   adds-unit hard l b h = adds-mark l b h
   adds-unit (soft w) l b h = by (not (holds σ l)) (raw-set l (b .weight l + w) b h)
