@@ -1,6 +1,7 @@
 pub mod Basics
 pub mod Sum
 pub mod Literals
+pub mod Cases
 pub mod Steps
 pub mod Worth
 pub mod Fair

@@ -10,7 +10,7 @@ use Rattle.instance.specs.Meaning.{Assignment, holds, falsified, broken}
 use Rattle.instance.specs.Within.{Every, In}
 use Rattle.calculus.specs.Branch.{Branch, put, unitOf, gain, several, numbered, branches}
 use Rattle.calculus.specs.Theorems.Basics.{due, due-zero}
-use Rattle.calculus.specs.Theorems.Steps.{single, Extension, opens, branches-each}
+use Rattle.calculus.specs.Theorems.Cases.{single, Extension, opens, branches-each}
 use Rattle.calculus.specs.Theorems.Worth.{toll, charge, raw, worth, least, raw-put, adds-unit}
 use Rattle.calculus.specs.Theorems.Fair.{Sane, Fair, literals-in, sane-unit, sane-put}
 

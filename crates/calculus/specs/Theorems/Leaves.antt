@@ -12,7 +12,7 @@ use Rattle.instance.specs.Clause.{Literal, Weight, soft, Body, clause, Clause, 
 use Rattle.calculus.specs.Bounds.{branching, countOf, productOf}
 use Rattle.calculus.specs.Branch.{Branch, blank, withRules, keep, putAt, put, unitOf, nothing, gain, several, numbered, enter, rootFrom, root, spent, branches}
 use Rattle.calculus.specs.Theorems.Sum.{fold, fold-snoc, fold-put}
-use Rattle.calculus.specs.Theorems.Steps.{single, Extension, opens}
+use Rattle.calculus.specs.Theorems.Cases.{single, Extension, opens}
 use Rattle.calculus.specs.Theorems.Unchanged.{nothing-leaves, unit-leaves}
 
 -- what a clause counts, and z where it is spent

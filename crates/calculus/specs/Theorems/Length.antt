@@ -28,7 +28,8 @@ use Rattle.calculus.specs.Theorems.Numbers.{write-range}
 use Rattle.calculus.specs.Theorems.Potential.{potential, contradict-potential, extend-potential, root-potential}
 use Rattle.calculus.specs.Theorems.Root.{sane-root}
 use Rattle.calculus.specs.Theorems.Sound.{stepped-sane}
-use Rattle.calculus.specs.Theorems.Steps.{Extension, Stepped, closed, contradicted, extended}
+use Rattle.calculus.specs.Theorems.Cases.{Extension}
+use Rattle.calculus.specs.Theorems.Steps.{Stepped, closed, contradicted, extended}
 use Rattle.calculus.specs.Theorems.Stuck.{stuck-refutes}
 use Rattle.calculus.specs.Theorems.Unchanged.{Gained, contradiction-leaves, extension-leaves}
 use Rattle.calculus.specs.Theorems.Written.{size-some, write-kept, wrote-kept, write-accepted}

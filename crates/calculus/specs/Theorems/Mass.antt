@@ -1,12 +1,12 @@
 -- No number on a branch passes the total soft weight: booked cost, unit weights and the weight not extended never grow together,
 -- and at the root they are the total.
-use Prim.Native.Nat.{ℕ, _+_, _-_, _≤_}
+use Prim.Native.Nat.{ℕ, _+_, _≤_}
 use mathlib.Core.List.{List, [], _∷_, _++_}
 use mathlib.Core.Option.{some}
-use mathlib.Core.Path.{_≡_, refl}
+use mathlib.Core.Path.{_≡_, refl, ap}
 use native.Mathlib.Nat.{add-left-comm}
 use native.Mathlib.Omega.{arith}
-use Rattle.instance.specs.Clause.{Literal, pos, neg, Weight, hard, soft, Body, clause, Clause, Problem, variableOf, same, clauseAt, softOf, totalOf}
+use Rattle.instance.specs.Clause.{Literal, pos, Weight, hard, soft, Body, clause, Clause, Problem, variableOf, clauseAt, softOf, totalOf}
 use Rattle.instance.specs.Within.{Every, In, InBody, Fits}
 use Rattle.instance.specs.declared.answers.Claim.{Claim}
 use Rattle.calculus.specs.declared.Record.{Record}
@@ -33,12 +33,13 @@ use Rattle.calculus.specs.Branch.{
 use Rattle.calculus.specs.Paths.{Path}
 use Rattle.calculus.specs.Theorems.Basics.{every-among, every-join}
 use Rattle.calculus.specs.Theorems.Sum.{fold, sumOf, fold-snoc, fold-put}
-use Rattle.calculus.specs.Theorems.Literals.{litSum, litSum-zero, litSum-ge, litSum-weight}
+use Rattle.calculus.specs.Theorems.Literals.{litSum, litSum-zero, litSum-pair, litSum-ge, litSum-weight}
 use Rattle.calculus.specs.Theorems.Fair.{Sane, literals-in}
 use Rattle.calculus.specs.Theorems.Paths.{path-kept}
 use Rattle.calculus.specs.Theorems.Root.{Covered, sane-root}
 use Rattle.calculus.specs.Theorems.Sound.{stepped-sane}
-use Rattle.calculus.specs.Theorems.Steps.{Contradiction, bothHard, oneHard, bothSoft, Extension, opens, branches-each, Stepped, closed, contradicted, extended}
+use Rattle.calculus.specs.Theorems.Cases.{Takes, Contradiction, bothHard, oneHard, bothSoft, Extension, opens, branches-each}
+use Rattle.calculus.specs.Theorems.Steps.{Stepped, closed, contradicted, extended}
 
 unfoldable pub mass : ℕ → Branch → ℕ
 mass n b = b .booked + litSum n (b .weight) + totalOf (b .rules)
@@ -99,18 +100,17 @@ module _ (n : ℕ) where
   mass-unit (soft w) l b h = omega (arith, mass-set l (b .weight l + w) b h)
 
   -- ---- the records
+  -- v is booked that was taken from l; what is taken from its opposite is gone
+  takes-mass : (l : Literal) (v w : ℕ) (b d : Branch) → In n l → Takes l v w b d → mass n d + w ≡ mass n b
+  unfolding mass
+  takes-mass l v w b d h t =
+      omega (arith, t .booked, t .own, t .other, ap totalOf (t .rules), litSum-pair n (d .weight) (b .weight) l h (t .elsewhere))
+
   contradict-mass : (x : ℕ) (b d : Branch) → 1 ≤ x → x ≤ n → Contradiction x b (some d) → mass n d ≤ mass n b
   unfolding variableOf
-  contradict-mass x b d lo hi (bothHard p q) = unfold mass kill in (omega arith)
-  contradict-mass x b d lo hi (oneHard l v m w) = omega (arith, mass-book (b .weight l) (setWeight l 0 b), mass-set l 0 b (rw v (lo, hi)))
-  contradict-mass x b d lo hi (bothSoft s e p) =
-      unfold setWeight same in (
-      omega (
-        arith,
-        mass-book s (setWeight (pos x) (b .weight (pos x) - s) (setWeight (neg x) (b .weight (neg x) - s) b)),
-        mass-set (neg x) (b .weight (neg x) - s) b (lo, hi),
-        mass-set (pos x) (b .weight (pos x) - s) (setWeight (neg x) (b .weight (neg x) - s) b) (lo, hi),
-      ))
+  contradict-mass x b d lo hi (bothHard p q t) = unfold mass in (omega (arith, t .booked, ap (litSum n) (t .weight), ap totalOf (t .rules)))
+  contradict-mass x b d lo hi (oneHard l v m w t) = omega (arith, takes-mass l (b .weight l) 0 b d (rw v (lo, hi)) t)
+  contradict-mass x b d lo hi (bothSoft s e p t) = omega (arith, takes-mass (pos x) s s b d (lo, hi) t)
 
   extend-mass : (b : Branch) (i : ℕ) (c : Clause) (bs : List Branch) → Sane n b → clauseAt (b .rules) i ≡ some c → Extension b i c (some bs) →
       Every (λ d. mass n d ≤ mass n b) bs

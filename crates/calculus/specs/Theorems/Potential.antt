@@ -1,14 +1,13 @@
 -- No fewer than the contradictions still to come on a branch: its literals with weight, its marks while it is not dead, and its
 -- clauses that are not spent. At the root that is at most K.
-use Prim.Native.Nat.{ℕ, zero, suc, _+_, _-_, _<_, _≤_, min}
+use Prim.Native.Nat.{ℕ, zero, suc, _+_, _<_, _≤_, min}
 use mathlib.Core.Bool.{Bool, true, false, not}
 use mathlib.Core.List.{List, [], _∷_, _++_}
 use mathlib.Core.Option.{some}
-use mathlib.Core.Path.{_≡_, refl}
-use native.Mathlib.Decide.{decLe}
+use mathlib.Core.Path.{_≡_, refl, ap, ap₂}
 use native.Mathlib.Omega.{arith}
 use lib.ListN.{length}
-use Rattle.instance.specs.Clause.{Literal, pos, neg, Weight, hard, soft, Body, clause, Clause, variableOf, same, clauseAt}
+use Rattle.instance.specs.Clause.{Literal, pos, neg, Weight, hard, soft, Body, clause, Clause, variableOf, opposite, clauseAt}
 use Rattle.instance.specs.Within.{Every, In, InBody}
 use Rattle.calculus.specs.Branch.{
   Branch,
@@ -33,11 +32,11 @@ use Rattle.calculus.specs.Branch.{
 }
 use Rattle.calculus.specs.Theorems.Basics.{due, every-among}
 use Rattle.calculus.specs.Theorems.Sum.{fold}
-use Rattle.calculus.specs.Theorems.Literals.{litSum, litSum-zero, litSum-ge, litSum-weight, litSum-mark}
+use Rattle.calculus.specs.Theorems.Literals.{litSum, litSum-zero, litSum-pair, litSum-ge, litSum-weight, litSum-mark}
 use Rattle.calculus.specs.Theorems.Fair.{Sane, literals-in}
 use Rattle.calculus.specs.Theorems.Leaves.{remaining, remaining-put, remaining-keep, remaining-spent}
 use Rattle.calculus.specs.Theorems.Root.{Covered}
-use Rattle.calculus.specs.Theorems.Steps.{Contradiction, bothHard, oneHard, bothSoft, Extension, opens, branches-each}
+use Rattle.calculus.specs.Theorems.Cases.{Dies, Takes, Contradiction, bothHard, oneHard, bothSoft, Extension, opens, branches-each}
 
 -- 1 for a weight
 positive : ℕ → ℕ
@@ -62,21 +61,21 @@ unfolding positive
 positive-most zero = omega arith
 positive-most (suc v) = omega arith
 
+positive-not : (v : ℕ) → v ≡ 0 → positive v ≡ 0
+positive-not v e = rw e (unfold positive in refl)
+
 positive-is : (v : ℕ) → 0 < v → positive v ≡ 1
 unfolding positive
 positive-is zero h = absurd (omega arith)
 positive-is (suc v) h = refl
 
--- taking the smaller from both leaves weight on one side at most
-positive-rest : (v w : ℕ) → positive (v - min v w) + positive (w - min v w) ≤ 1
-positive-rest v w = by (decLe v w)
-  where
-    none-left : (u : ℕ) → u ≡ 0 → positive u ≡ 0
-    none-left u e = rw e (unfold positive in refl)
-
-    by : Dec (v ≤ w) → positive (v - min v w) + positive (w - min v w) ≤ 1
-    by (yes h) = omega (arith, none-left (v - min v w) (omega arith), positive-most (w - min v w))
-    by (no h) = omega (arith, none-left (w - min v w) (omega arith), positive-most (v - min v w))
+-- of two weights whose smaller is 0, one counts at most
+positive-pair : (v w : ℕ) → min v w ≡ 0 → positive v + positive w ≤ 1
+unfolding positive
+positive-pair zero zero h = omega arith
+positive-pair zero (suc w) h = omega arith
+positive-pair (suc v) zero h = omega arith
+positive-pair (suc v) (suc w) h = absurd (omega arith)
 
 module _ (n : ℕ) where
   -- ---- the single changes
@@ -110,21 +109,54 @@ module _ (n : ℕ) where
 
   -- ---- the records
   -- a contradiction takes one away
-  pub contradict-potential : (x : ℕ) (b d : Branch) → 1 ≤ x → x ≤ n → b .dead ≡ false → Contradiction x b (some d) → 1 + potential n d ≤ potential n b
-  unfolding potential weighted marks kill book setWeight variableOf
-  contradict-potential x b d lo hi q (bothHard p r) =
-      rw q (unfold due in (omega (arith, rw p at (litSum-ge n (λ k. due (b .marked k) 1) (pos x) (lo, hi)))))
-  contradict-potential x b d lo hi q (oneHard l v m w) =
-      unfold positive in (omega (arith, weighted-set l 0 b (rw v (lo, hi)), positive-is (b .weight l) w))
-  contradict-potential x b d lo hi q (bothSoft s e p) =
-      unfold same in (
+  takes-potential : (l : Literal) (v w : ℕ) (b d : Branch) → In n l → Takes l v w b d →
+      1 + (positive (d .weight l) + positive (d .weight (opposite l))) ≤ positive (b .weight l) + positive (b .weight (opposite l)) → 1 + potential n d ≤ potential n b
+  unfolding potential weighted marks
+  takes-potential l v w b d h t less =
       omega (
         arith,
-        weighted-set (neg x) (b .weight (neg x) - s) b (lo, hi),
-        weighted-set (pos x) (b .weight (pos x) - s) (setWeight (neg x) (b .weight (neg x) - s) b) (lo, hi),
+        litSum-pair n (λ k. positive (d .weight k)) (λ k. positive (b .weight k)) l h (λ k u. ap positive (t .elsewhere k u)),
+        ap₂ (λ z m. due (not z) (litSum n (λ k. due (m k) 1))) (t .dead) (t .marked),
+        ap remaining (t .rules),
+      )
+
+  dies-potential : (l : Literal) (b d : Branch) → In n l → b .dead ≡ false → b .marked l ≡ true → Dies b d → 1 + potential n d ≤ potential n b
+  unfolding potential weighted marks
+  dies-potential l b d h q m t =
+      omega (
+        arith,
+        ap (λ f. litSum n (λ k. positive (f k))) (t .weight),
+        ap remaining (t .rules),
+        none (d .dead) (t .dead),
+        all (b .dead) q,
+        one,
+      )
+    where
+      none : (z : Bool) → z ≡ true → due (not z) (litSum n (λ k. due (d .marked k) 1)) ≡ 0
+      none z e = rw e (unfold due in refl)
+
+      all : (z : Bool) → z ≡ false → due (not z) (litSum n (λ k. due (b .marked k) 1)) ≡ litSum n (λ k. due (b .marked k) 1)
+      all z e = rw e (unfold due in refl)
+
+      one : 1 ≤ litSum n (λ k. due (b .marked k) 1)
+      one = unfold due in (rw m at (litSum-ge n (λ k. due (b .marked k) 1) l h))
+
+  pub contradict-potential : (x : ℕ) (b d : Branch) → 1 ≤ x → x ≤ n → b .dead ≡ false → Contradiction x b (some d) → 1 + potential n d ≤ potential n b
+  unfolding variableOf opposite
+  contradict-potential x b d lo hi q (bothHard p r t) = dies-potential (pos x) b d (lo, hi) q p t
+  contradict-potential x b d lo hi q (oneHard l v m w t) =
+      takes-potential l (b .weight l) 0 b d (rw v (lo, hi)) t
+      (omega (arith, positive-is (b .weight l) w, positive-not (d .weight l) (omega (arith, t .own)), ap positive (unchanged (t .other))))
+    where
+      unchanged : {u v : ℕ} → u + 0 ≡ v → u ≡ v
+      unchanged e = omega arith
+  contradict-potential x b d lo hi q (bothSoft s e p t) =
+      takes-potential (pos x) s s b d (lo, hi) t
+      (omega (
+        arith,
         positive-is (b .weight (pos x)) (omega arith),
         positive-is (b .weight (neg x)) (omega arith),
-        rw (← e) at (positive-rest (b .weight (pos x)) (b .weight (neg x))),
+        positive-pair (d .weight (pos x)) (d .weight (neg x)) (omega (arith, t .own, t .other)),
       ))
 
   -- an extension takes a clause away and brings a unit

@@ -14,7 +14,7 @@ use Rattle.calculus.specs.Branch.{Branch, setWeight, mark, withRules, pu
 use Rattle.calculus.specs.Theorems.Basics.{clash, due, every-among, every-weaken}
 use Rattle.calculus.specs.Theorems.Sum.{fold, sumOf, fold-put}
 use Rattle.calculus.specs.Theorems.Literals.{litSum, litSum-same, litSum-weight}
-use Rattle.calculus.specs.Theorems.Steps.{Extension, opens, branches-each}
+use Rattle.calculus.specs.Theorems.Cases.{Extension, opens, branches-each}
 use Rattle.calculus.specs.Theorems.Worth.{bill, unitToll, units, raw, worth, least, raw-marked}
 use Rattle.calculus.specs.Theorems.Fair.{Sane, Fair, literals-in}
 use Rattle.calculus.specs.Theorems.Root.{bill-cost, bill-feasible}

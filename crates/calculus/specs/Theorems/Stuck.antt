@@ -22,20 +22,8 @@ use Rattle.calculus.specs.Writing.{from, candidates, Move, first, Draft,
 use Rattle.calculus.specs.Theorems.Basics.{tests, clash, due, due-zero, every-append, every-split, every-at, every-of, clauseAt-range}
 use Rattle.calculus.specs.Theorems.Sum.{sum-zero}
 use Rattle.calculus.specs.Theorems.Literals.{same-true, opposite-holds, litSum-zero}
-use Rattle.calculus.specs.Theorems.Steps.{
-  Contradiction,
-  noWeight,
-  noPair,
-  contradiction,
-  Extension,
-  over,
-  short,
-  twofold,
-  extension,
-  Stepped,
-  step-contradicts,
-  step-extends,
-}
+use Rattle.calculus.specs.Theorems.Cases.{Contradiction, noWeight, noPair, contradiction, Extension, over, short, twofold, extension}
+use Rattle.calculus.specs.Theorems.Steps.{Stepped, step-contradicts, step-extends}
 use Rattle.calculus.specs.Theorems.Worth.{toll, charge, bill, unitToll, units, raw, worth, least}
 use Rattle.calculus.specs.Theorems.Fair.{Whole, Sane}
 use Rattle.calculus.specs.Theorems.Root.{root-worth, bill-cost, bill-feasible, sane-root}

@@ -7,7 +7,7 @@ use mathlib.Core.Path.{_≡_, refl}
 use Rattle.instance.specs.Clause.{Literal, Weight, hard, soft, Clause, same}
 use Rattle.instance.specs.Within.{Every}
 use Rattle.calculus.specs.Branch.{Branch, setWeight, mark, book, kill, put, unitOf, nothing}
-use Rattle.calculus.specs.Theorems.Steps.{Contradiction, bothHard, oneHard, bothSoft, Extension, opens, branches-each}
+use Rattle.calculus.specs.Theorems.Cases.{Contradiction, bothHard, oneHard, bothSoft, Extension, opens, branches-each}
 
 -- a contradiction: the clauses and the marks
 pub record Settled (b d : Branch) : Type 0 where
@@ -15,10 +15,9 @@ pub record Settled (b d : Branch) : Type 0 where
   pub marked : d .marked ≡ b .marked
 
 pub contradiction-leaves : (x : ℕ) (b d : Branch) → Contradiction x b (some d) → Settled b d
-unfolding kill book setWeight
-contradiction-leaves x b d (bothHard p q) = record { rules = refl; marked = refl }
-contradiction-leaves x b d (oneHard l v m w) = record { rules = refl; marked = refl }
-contradiction-leaves x b d (bothSoft s e p) = record { rules = refl; marked = refl }
+contradiction-leaves x b d (bothHard p q t) = record { rules = t .rules; marked = t .marked }
+contradiction-leaves x b d (oneHard l v m w t) = record { rules = t .rules; marked = t .marked }
+contradiction-leaves x b d (bothSoft s e p t) = record { rules = t .rules; marked = t .marked }
 
 -- a unit gained: the clauses, whether the branch is dead, and the marks that there were
 pub record Gained (b d : Branch) : Type 0 where

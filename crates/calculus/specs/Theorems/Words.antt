@@ -13,7 +13,8 @@ use Rattle.calculus.specs.declared.Record.{Record}
 use Rattle.calculus.specs.Branch.{Branch, withRules, putAt, put, root, extend, contradict}
 use Rattle.calculus.specs.Paths.{Path}
 use Rattle.calculus.specs.Theorems.Basics.{every-weaken, every-join}
-use Rattle.calculus.specs.Theorems.Steps.{Contradiction, contradiction, Extension, extension, Stepped, closed, contradicted, extended}
+use Rattle.calculus.specs.Theorems.Cases.{Contradiction, contradiction, Extension, extension}
+use Rattle.calculus.specs.Theorems.Steps.{Stepped, closed, contradicted, extended}
 use Rattle.calculus.specs.Theorems.Fair.{Sane}
 use Rattle.calculus.specs.Theorems.Extension.{extend-fair}
 use Rattle.calculus.specs.Theorems.Contradiction.{contradict-fair}

@@ -4,16 +4,17 @@ use Prim.Native.Nat.{ℕ, _+_, _≤_, min}
 use mathlib.Core.Bool.{Bool, true, false, not, and-true}
 use mathlib.Core.List.{List, [], _∷_}
 use mathlib.Core.Option.{some}
-use mathlib.Core.Path.{_≡_}
+use mathlib.Core.Path.{_≡_, refl, ap}
 use native.Mathlib.Nat.{add-left-comm}
 use native.Mathlib.Omega.{arith}
-use Rattle.instance.specs.Clause.{Literal, Weight, hard, soft, Body, clause, Clause, clauseAt}
+use Rattle.instance.specs.Clause.{Literal, Weight, hard, soft, Body, clause, Clause, opposite, clauseAt}
 use Rattle.instance.specs.Meaning.{Assignment, holds, falsified, broken}
 use Rattle.instance.specs.Within.{In, InBody}
 use Rattle.calculus.specs.Branch.{Branch, setWeight, mark, book, kill, withRules, keep, put, unitOf, nothing, gain}
 use Rattle.calculus.specs.Theorems.Basics.{due}
 use Rattle.calculus.specs.Theorems.Sum.{sumOf, fold-snoc, fold-put}
-use Rattle.calculus.specs.Theorems.Literals.{litSum, litSum-ge, litSum-weight, litSum-mark}
+use Rattle.calculus.specs.Theorems.Literals.{opposite-holds, litSum, litSum-pair, litSum-ge, litSum-weight, litSum-mark}
+use Rattle.calculus.specs.Theorems.Cases.{Takes}
 
 -- what a falsified clause comes to
 unfoldable pub toll : ℕ → Weight → ℕ
@@ -45,15 +46,15 @@ least H n σ [] = H
 least H n σ (b ∷ bs) = min (worth H n σ b) (least H n σ bs)
 
 module _ (H n : ℕ) (σ : Assignment) where
-  pub raw-book : (v : ℕ) (b : Branch) → raw H n σ (book v b) ≡ raw H n σ b + v
+  raw-book : (v : ℕ) (b : Branch) → raw H n σ (book v b) ≡ raw H n σ b + v
   unfolding raw book units unitToll
   raw-book v b = omega arith
 
-  pub raw-kill : (b : Branch) → H ≤ raw H n σ (kill b)
-  unfolding raw kill due
-  raw-kill b = omega arith
+  pub raw-dead : (b : Branch) → b .dead ≡ true → H ≤ raw H n σ b
+  unfolding raw
+  raw-dead b e = rw e (unfold due in (omega arith))
 
-  pub raw-set : (l : Literal) (v : ℕ) (b : Branch) → In n l →
+  raw-set : (l : Literal) (v : ℕ) (b : Branch) → In n l →
       raw H n σ (setWeight l v b) + due (not (holds σ l)) (b .weight l) ≡ raw H n σ b + due (not (holds σ l)) v
   unfolding raw setWeight units unitToll
   raw-set l v b h = by (not (holds σ l)) (litSum-weight n l b h (λ k u. due (not (holds σ k)) (u + due (b .marked k) H)) v)
@@ -66,6 +67,31 @@ module _ (H n : ℕ) (σ : Assignment) where
           b .booked + due (b .dead) H + U b + bill H σ (b .rules) + due t v
       by true e = unfold due in (omega arith)
       by false e = unfold due in (omega arith)
+
+  -- what a contradiction takes from a literal was live where that literal is false
+  pub raw-takes : (l : Literal) (v w : ℕ) (b d : Branch) → In n l → Takes l v w b d → raw H n σ d + due (holds σ l) w ≡ raw H n σ b + due (holds σ l) v
+  unfolding raw units
+  raw-takes l v w b d h t =
+      by (holds σ l) (rw (opposite-holds σ l) at (litSum-pair n (falsely d) (falsely b) l h (λ k u. ap (due (not (holds σ k))) (elsewhere k (t .elsewhere k u)))))
+    where
+      falsely : Branch → Literal → ℕ
+      falsely e k = due (not (holds σ k)) (unitToll H e k)
+
+      mark-toll : (k : Literal) → due (d .marked k) H ≡ due (b .marked k) H
+      mark-toll k = ap (λ m. due (m k) H) (t .marked)
+
+      elsewhere : (k : Literal) → d .weight k ≡ b .weight k → unitToll H d k ≡ unitToll H b k
+      elsewhere k e = unfold unitToll in (omega (arith, mark-toll k))
+
+      taken : (k : Literal) (u : ℕ) → d .weight k + u ≡ b .weight k → unitToll H d k + u ≡ unitToll H b k
+      taken k u e = unfold unitToll in (omega (arith, mark-toll k))
+
+      by : (p : Bool) → litSum n (falsely d) + (due (not p) (unitToll H b l) + due (not (not p)) (unitToll H b (opposite l))) ≡
+          litSum n (falsely b) + (due (not p) (unitToll H d l) + due (not (not p)) (unitToll H d (opposite l))) →
+          d .booked + due (d .dead) H + litSum n (falsely d) + bill H σ (d .rules) + due p w ≡
+          b .booked + due (b .dead) H + litSum n (falsely b) + bill H σ (b .rules) + due p v
+      by true e = unfold due in (omega (arith, t .booked, ap (λ z. due z H) (t .dead), ap (bill H σ) (t .rules), taken (opposite l) w (t .other)))
+      by false e = unfold due in (omega (arith, t .booked, ap (λ z. due z H) (t .dead), ap (bill H σ) (t .rules), taken l v (t .own)))
 
   -- a hard mark that is not met comes to H
   pub raw-marked : (l : Literal) (b : Branch) → In n l → b .marked l ≡ true → due (not (holds σ l)) H ≤ raw H n σ b
@@ -123,7 +149,7 @@ module _ (H n : ℕ) (σ : Assignment) where
 
   adds-nothing : (w : Weight) (b : Branch) → Adds (toll H w) b (nothing w b)
   unfolding nothing toll
-  adds-nothing hard b = omega (arith, raw-kill b)
+  adds-nothing hard b = omega (arith, raw-dead (kill b) (unfold kill in refl))
   adds-nothing (soft w) b = omega (arith, raw-book w b)
 
   pub adds-gain : (w : Weight) (p : Body) (b : Branch) → InBody n p → Adds (due (broken σ p) (toll H w)) b (gain w p b)
