@@ -11,6 +11,7 @@ pub mod Root
 pub mod Walked
 pub mod Sound
 pub mod Written
+pub mod Choice
 pub mod Stuck
 pub mod Unchanged
 pub mod Numbers

@@ -1,6 +1,6 @@
 -- Small facts about tests and lists.
 use Prim.Native.Nat.{ℕ, zero, suc, _≤_}
-use mathlib.Core.Bool.{Bool, true, false, true≢false}
+use mathlib.Core.Bool.{Bool, true, false, _||_, true≢false}
 use mathlib.Core.List.{List, [], _∷_, _++_, List·Memᴰ as Among, List·Memᴰ·head, List·Memᴰ·tail}
 use mathlib.Core.Option.{some, Option·some-injective, Option·none-ne-some}
 use mathlib.Core.Path.{_≡_, refl, sym, subst, _∙_}
@@ -19,6 +19,14 @@ clash p q = absurd (true≢false (sym p ∙ q))
 pub false-unless : (t : Bool) → (t ≡ true → ⊥) → t ≡ false
 false-unless true h = absurd (h refl)
 false-unless false h = refl
+
+pub or-false : (t u : Bool) → (t || u) ≡ false → (t ≡ false) × (u ≡ false)
+or-false true u e = clash refl e
+or-false false u e = (refl, e)
+
+pub or-second : (t u : Bool) → (t || u) ≡ true → t ≡ false → u ≡ true
+or-second true u e f = clash refl f
+or-second false u e f = e
 
 -- v where the test holds
 unfoldable pub due : Bool → ℕ → ℕ

@@ -1,11 +1,10 @@
 -- Demand 2 over records: what an accepted derivation claims is true. The least worth of the open branches never changes, and at
 -- the end none is open.
-use Prim.Native.Nat.{ℕ, suc, _+_, _≤_, min}
-use mathlib.Core.Bool.{Bool, true, false, _||_}
+use Prim.Native.Nat.{ℕ, suc, _≤_, min}
+use mathlib.Core.Bool.{Bool, true, false}
 use mathlib.Core.List.{List, [], _∷_, _++_}
 use mathlib.Core.Path.{_≡_, refl, subst}
 use native.Mathlib.Omega.{arith}
-use lib.Dec.{leb}
 use Rattle.instance.specs.Clause.{Problem}
 use Rattle.instance.specs.Meaning.{Assignment, feasible, cost}
 use Rattle.instance.specs.Within.{Every, Fits}
@@ -17,8 +16,8 @@ use Rattle.calculus.specs.declared.Record.{Record}
 use Rattle.calculus.specs.Branch.{Branch, root}
 use Rattle.calculus.specs.Claims.{True}
 use Rattle.calculus.specs.Derivation.{Item, closable, walk}
-use Rattle.calculus.specs.Theorems.Basics.{tests, due, every-append}
-use Rattle.calculus.specs.Theorems.Worth.{bill, units, raw, least}
+use Rattle.calculus.specs.Theorems.Basics.{tests, or-second, every-append}
+use Rattle.calculus.specs.Theorems.Worth.{bill, raw, least, raw-booked, raw-dead}
 use Rattle.calculus.specs.Theorems.Fair.{Sane, Fair}
 use Rattle.calculus.specs.Theorems.Extension.{extend-fair}
 use Rattle.calculus.specs.Theorems.Contradiction.{contradict-fair}
@@ -41,13 +40,13 @@ module _ (I : Problem) where
 
   -- a branch that may be closed is worth the cap
   closes : (k : Claim) (H : ℕ) → Caps k H → (b : Branch) → closable k b ≡ true → (σ : Assignment) → H ≤ raw H n σ b
-  unfolding closable raw
-  closes (Minimum m) H e b h σ = by (b .dead) h
+  unfolding closable
+  closes (Minimum m) H e b h σ = by (b .dead) refl
     where
-      by : (t : Bool) → (t || leb m (b .booked)) ≡ true → H ≤ b .booked + due t H + units H n σ b + bill H σ (b .rules)
-      by true h = unfold due in (omega arith)
-      by false h = omega (arith, tests)
-  closes Infeasible H e b h σ = rw h (unfold due in (omega arith))
+      by : (t : Bool) → b .dead ≡ t → H ≤ raw H n σ b
+      by true d = raw-dead H n σ b d
+      by false d = let l = or-second (b .dead) _ h d in omega (arith, tests, raw-booked H n σ b)
+  closes Infeasible H e b h σ = raw-dead H n σ b h
 
   module _ (k : Claim) where
     -- each kind of record by its own lemma

@@ -50,6 +50,10 @@ module _ (H n : ℕ) (σ : Assignment) where
   unfolding raw book units unitToll
   raw-book v b = omega arith
 
+  pub raw-booked : (b : Branch) → b .booked ≤ raw H n σ b
+  unfolding raw
+  raw-booked b = omega arith
+
   pub raw-dead : (b : Branch) → b .dead ≡ true → H ≤ raw H n σ b
   unfolding raw
   raw-dead b e = rw e (unfold due in (omega arith))
