@@ -12,6 +12,7 @@ pub mod Walked
 pub mod Sound
 pub mod Written
 pub mod Choice
+pub mod Tautology
 pub mod Stuck
 pub mod Unchanged
 pub mod Numbers

@@ -44,9 +44,9 @@ module _ {A : Type 0} where
   every-append P [] ys h k = k
   every-append P (x ∷ xs) ys h k = (h .0, every-append P xs ys (h .1) k)
 
-  pub every-split : (P : A → Type 0) (xs ys : List A) → Every P (xs ++ ys) → Every P xs × Every P ys
-  every-split P [] ys h = (tt, h)
-  every-split P (x ∷ xs) ys h = let r = every-split P xs ys (h .1) in ((h .0, r .0), r .1)
+  pub every-all : (P : A → Type 0) (xs : List A) → ((x : A) → Among x xs → P x) → Every P xs
+  every-all P [] h = tt
+  every-all P (x ∷ xs) h = (h x (List·Memᴰ·head refl), every-all P xs (λ y m. h y (List·Memᴰ·tail m)))
 
   pub every-among : (P : A → Type 0) {x : A} (xs : List A) → Every P xs → Among x xs → P x
   every-among P (y ∷ ys) h (List·Memᴰ·head e) = subst P (sym e) (h .0)

@@ -2,9 +2,9 @@
 -- hard mark that is not met, and a dead branch each come to H.
 use Prim.Native.Nat.{ℕ, _+_, _≤_, min}
 use mathlib.Core.Bool.{Bool, true, false, not, and-true}
-use mathlib.Core.List.{List, [], _∷_}
+use mathlib.Core.List.{List, [], _∷_, List·Memᴰ as Among, List·Memᴰ·head, List·Memᴰ·tail}
 use mathlib.Core.Option.{some}
-use mathlib.Core.Path.{_≡_, refl, ap}
+use mathlib.Core.Path.{_≡_, refl, ap, sym, subst}
 use native.Mathlib.Nat.{add-left-comm}
 use native.Mathlib.Omega.{arith}
 use Rattle.instance.specs.Clause.{Literal, Weight, hard, soft, Body, clause, Clause, opposite, clauseAt}
@@ -46,6 +46,11 @@ least H n σ [] = H
 least H n σ (b ∷ bs) = min (worth H n σ b) (least H n σ bs)
 
 module _ (H n : ℕ) (σ : Assignment) where
+  pub least-among : {d : Branch} (bs : List Branch) → Among d bs → least H n σ bs ≤ worth H n σ d
+  unfolding least
+  least-among (b ∷ bs) (List·Memᴰ·head e) = subst (λ x. least H n σ (b ∷ bs) ≤ worth H n σ x) (sym e) (omega arith)
+  least-among (b ∷ bs) (List·Memᴰ·tail m) = omega (arith, least-among bs m)
+
   raw-book : (v : ℕ) (b : Branch) → raw H n σ (book v b) ≡ raw H n σ b + v
   unfolding raw book units unitToll
   raw-book v b = omega arith
