@@ -55,10 +55,14 @@ pub record Takes (l : Literal) (v w : ℕ) (b d : Branch) : Type 0 where
 -- At x: 01's three cases, and the two where there is nothing to contradict.
 pub data Contradiction (x : ℕ) (b : Branch) : Option Branch → Type 0 where
   bothHard : {d : Branch} → b .marked (pos x) ≡ true → b .marked (neg x) ≡ true → Dies b d → Contradiction x b (some d)
-  oneHard : {d : Branch} (l : Literal) → variableOf l ≡ x → b .marked (opposite l) ≡ true → 0 < b .weight l → Takes l (b .weight l) 0 b d → Contradiction x b (some d)
-  bothSoft : {d : Branch} (s : ℕ) → s ≡ min (b .weight (pos x)) (b .weight (neg x)) → 0 < s → Takes (pos x) s s b d → Contradiction x b (some d)
-  noWeight : (l : Literal) → variableOf l ≡ x → b .marked (opposite l) ≡ true → b .marked l ≡ false → b .weight l ≡ 0 → Contradiction x b none
-  noPair : b .marked (pos x) ≡ false → b .marked (neg x) ≡ false → min (b .weight (pos x)) (b .weight (neg x)) ≡ 0 → Contradiction x b none
+  oneHard : {d : Branch} (l : Literal) → variableOf l ≡ x → b .marked (opposite l) ≡ true → 0 < b .weight l →
+      Takes l (b .weight l) 0 b d → Contradiction x b (some d)
+  bothSoft : {d : Branch} (s : ℕ) → s ≡ min (b .weight (pos x)) (b .weight (neg x)) → 0 < s → Takes (pos x) s s b d →
+      Contradiction x b (some d)
+  noWeight : (l : Literal) → variableOf l ≡ x → b .marked (opposite l) ≡ true → b .marked l ≡ false → b .weight l ≡ 0 →
+      Contradiction x b none
+  noPair : b .marked (pos x) ≡ false → b .marked (neg x) ≡ false → min (b .weight (pos x)) (b .weight (neg x)) ≡ 0 →
+      Contradiction x b none
 
 -- simp takes a weight to what it was set to
 set-pos-neg : (x v : ℕ) (b : Branch) → (setWeight (pos x) v b) .weight (neg x) ≡ b .weight (neg x)
@@ -98,7 +102,8 @@ spend-none l b q = by (ltb 0 (b .weight l)) refl
     by true e = absurd (Option·some-ne-none _ (rw (e, spend) at q))
     by false e = omega (arith, tests)
 
-cancel-some : (x s : ℕ) (b d : Branch) → s ≤ b .weight (pos x) → s ≤ b .weight (neg x) → cancelBy x s b ≡ some d → (0 < s) × Takes (pos x) s s b d
+cancel-some : (x s : ℕ) (b d : Branch) → s ≤ b .weight (pos x) → s ≤ b .weight (neg x) → cancelBy x s b ≡ some d →
+    (0 < s) × Takes (pos x) s s b d
 unfolding cancelBy book opposite variableOf
 cancel-some x s b d l m q = by (ltb 0 s) refl
   where
@@ -129,7 +134,8 @@ pub contradiction : (x : ℕ) (b : Branch) → Contradiction x b (contradict x b
 unfolding contradict contradictBy variableOf opposite
 contradiction x b = by (b .marked (pos x)) refl (b .marked (neg x)) refl
   where
-    spends : (l : Literal) → variableOf l ≡ x → b .marked (opposite l) ≡ true → b .marked l ≡ false → (o : Option Branch) → spend l b ≡ o → Contradiction x b o
+    spends : (l : Literal) → variableOf l ≡ x → b .marked (opposite l) ≡ true → b .marked l ≡ false → (o : Option Branch) →
+        spend l b ≡ o → Contradiction x b o
     spends l v m u none q = noWeight l v m u (spend-none l b q)
     spends l v m u (some d) q = let h = spend-some l b d q in oneHard l v m (h .0) (h .1)
 
@@ -152,7 +158,8 @@ abbrev pub single : Literal → Body
 single l = clause (l ∷ [])
 
 pub data Extension (b : Branch) (i : ℕ) (c : Clause) : Option (List Branch) → Type 0 where
-  opens : (l k : Literal) (ks : List Literal) → c .body ≡ clause (l ∷ k ∷ ks) → tautology (l ∷ k ∷ ks) ≡ false → spent (c .weight) ≡ false →
+  opens : (l k : Literal) (ks : List Literal) → c .body ≡ clause (l ∷ k ∷ ks) → tautology (l ∷ k ∷ ks) ≡ false →
+      spent (c .weight) ≡ false →
       Extension b i c (some (branches (c .weight) (map single (l ∷ k ∷ ks)) (put i (soft 0) b)))
   over : spent (c .weight) ≡ true → Extension b i c none
   short : (ls : List Literal) → c .body ≡ clause ls → several ls ≡ false → Extension b i c none
@@ -162,19 +169,24 @@ pub extension : (b : Branch) (i : ℕ) (c : Clause) → Extension b i c (extend 
 unfolding extend unless extendBy disjuncts several
 extension b i c = by (spent (c .weight)) refl (c .body) refl
   where
-    by : (t : Bool) → spent (c .weight) ≡ t → (p : Body) → c .body ≡ p → Extension b i c (unless t (extendBy (c .weight) (disjuncts p) (put i (soft 0) b)))
+    by : (t : Bool) → spent (c .weight) ≡ t → (p : Body) → c .body ≡ p →
+        Extension b i c (unless t (extendBy (c .weight) (disjuncts p) (put i (soft 0) b)))
     by true u p q = over u
     by false u (clause []) q = short [] q refl
     by false u (clause (l ∷ [])) q = short (l ∷ []) q refl
     by false u (clause (l ∷ k ∷ ks)) q = test (tautology (l ∷ k ∷ ks)) refl
       where
         test : (t : Bool) → tautology (l ∷ k ∷ ks) ≡ t →
-            Extension b i c (extendBy (c .weight) (elim (not t) as (λ _. Option (List Body)) [ true ↦ some (map single (l ∷ k ∷ ks)) | false ↦ none ]) (put i (soft 0) b))
+            Extension b i c (extendBy (c .weight) (elim (not t) as (λ _. Option (List Body)) [
+              | true ↦ some (map single (l ∷ k ∷ ks))
+              | false ↦ none
+            ]) (put i (soft 0) b))
         test true e = twofold (l ∷ k ∷ ks) q e
         test false e = opens l k ks q e u
 
 -- what holds of each unit gained holds of the branches
-pub branches-each : (P : Branch → Type 0) (w : Weight) (b : Branch) (ls : List Literal) → ((l : Literal) → Among l ls → P (unitOf w l b)) →
+pub branches-each : (P : Branch → Type 0) (w : Weight) (b : Branch) (ls : List Literal) →
+    ((l : Literal) → Among l ls → P (unitOf w l b)) →
     Every P (branches w (map single ls) b)
 unfolding branches gain
 branches-each P w b [] h = tt

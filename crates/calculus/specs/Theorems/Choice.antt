@@ -36,14 +36,16 @@ pub data Choice (I : Problem) (k : Claim) (b : Branch) : Option Move → Type 0 
   closes : {m : Move} → m .chosen ≡ Q → closable k b ≡ true → Choice I k b (some m)
   contradicts : {m : Move} (x : ℕ) → m .chosen ≡ C x → closable k b ≡ false → 1 ≤ x → x ≤ I .variables →
       ((y : ℕ) → 1 ≤ y → y < x → contradict y b ≡ none) → Choice I k b (some m)
-  extends : {m : Move} (i : ℕ) → m .chosen ≡ E i → closable k b ≡ false → ((y : ℕ) → 1 ≤ y → y ≤ I .variables → contradict y b ≡ none) →
+  extends : {m : Move} (i : ℕ) → m .chosen ≡ E i → closable k b ≡ false →
+      ((y : ℕ) → 1 ≤ y → y ≤ I .variables → contradict y b ≡ none) →
       ((j : ℕ) (c : Clause) → j < i → clauseAt (b .rules) j ≡ some c → extend b j c ≡ none) → Choice I k b (some m)
   finds : Stuck I k b → Choice I k b none
 
 module _ (I : Problem) (k : Claim) (b : Branch) where
   -- ---- the first of the numbers from a on, d of them, whose record is not refused
   data Lowest (f : ℕ → Record) (a d : ℕ) : Option Move → Type 0 where
-    lowest : {m : Move} (x : ℕ) → m .chosen ≡ f x → a ≤ x → x < a + d → ((y : ℕ) → a ≤ y → y < x → Stops (step I k (f y) b)) → Lowest f a d (some m)
+    lowest : {m : Move} (x : ℕ) → m .chosen ≡ f x → a ≤ x → x < a + d → ((y : ℕ) → a ≤ y → y < x → Stops (step I k (f y) b)) →
+        Lowest f a d (some m)
     absent : ((y : ℕ) → a ≤ y → y < a + d → Stops (step I k (f y) b)) → Lowest f a d none
 
   first-lowest : (f : ℕ → Record) (a d : ℕ) → Lowest f a d (first I k (map f (from a d)) b)
@@ -51,7 +53,8 @@ module _ (I : Problem) (k : Claim) (b : Branch) where
   first-lowest f a zero = absent (λ y l u. absurd (omega arith))
   first-lowest f a (suc d) = by (step I k (f a) b) refl (first I k (map f (from (suc a) d)) b) (first-lowest f (suc a) d)
     where
-      earlier : {e : ℕ} → step I k (f a) b ≡ stop e → (y : ℕ) → a ≤ y → (suc a ≤ y → Stops (step I k (f y) b)) → Stops (step I k (f y) b)
+      earlier : {e : ℕ} → step I k (f a) b ≡ stop e → (y : ℕ) → a ≤ y → (suc a ≤ y → Stops (step I k (f y) b)) →
+          Stops (step I k (f y) b)
       earlier q y l r = pick (ℕ-discrete a y)
         where
           pick : Dec (a ≡ y) → Stops (step I k (f y) b)
@@ -69,9 +72,11 @@ module _ (I : Problem) (k : Claim) (b : Branch) where
   first-append [] ys = refl
   first-append (r ∷ xs) ys = by (step I k r b) (first-append xs ys)
     where
+      taken : Step → Option Move → Option Move
+      taken s o = elim s [ go new ↦ some (record { chosen = r; places = new }) | stop e ↦ o ]
+
       by : (s : Step) → first I k (xs ++ ys) b ≡ orElse (first I k xs b) (first I k ys b) →
-          _≡_ {A = Option Move} (elim s as (λ _. Option Move) [ go new ↦ some (record { chosen = r; places = new }) | stop e ↦ first I k (xs ++ ys) b ])
-          (orElse (elim s as (λ _. Option Move) [ go new ↦ some (record { chosen = r; places = new }) | stop e ↦ first I k xs b ]) (first I k ys b))
+          _≡_ {A = Option Move} (taken s (first I k (xs ++ ys) b)) (orElse (taken s (first I k xs b)) (first I k ys b))
       by (go new) h = refl
       by (stop e) h = h
 
@@ -106,7 +111,8 @@ module _ (I : Problem) (k : Claim) (b : Branch) where
       rest : List Record
       rest = map C (from 1 (I .variables)) ++ map E (from 1 (length (b .rules)))
 
-      after : closable k b ≡ false → (o p : Option Move) → Lowest C 1 (I .variables) o → Lowest E 1 (length (b .rules)) p → Choice I k b (orElse o p)
+      after : closable k b ≡ false → (o p : Option Move) → Lowest C 1 (I .variables) o → Lowest E 1 (length (b .rules)) p →
+          Choice I k b (orElse o p)
       after e (some m) p (lowest x q l u h) g =
           unfold orElse in (contradicts x q e l (omega arith) (λ y v w. nothing-at (open-below e .0) y v (omega arith) (h y v w)))
       after e none (some m) (absent h) (lowest i q l u g) =
@@ -117,7 +123,9 @@ module _ (I : Problem) (k : Claim) (b : Branch) where
             alive = open-below e .0;
             below = open-below e .1;
             no-contradiction = λ y v w. nothing-at (open-below e .0) y v w (h y v (omega arith));
-            no-extension = λ j c p. let r = clauseAt-range (b .rules) j c p in nothing-of (open-below e .0) j c p (g j (r .0) (omega arith));
+            no-extension = λ j c p.
+                let r = clauseAt-range (b .rules) j c p in
+                nothing-of (open-below e .0) j c p (g j (r .0) (omega arith));
           }))
 
       by : (t : Bool) → closable k b ≡ t →

@@ -17,7 +17,8 @@ use Rattle.calculus.specs.Theorems.Fair.{Whole, Sane, Fair}
 
 module _ (H n : ℕ) where
   -- both literals hard: no assignment meets both marks
-  both-level : (x : ℕ) (b d : Branch) → In n (pos x) → b .marked (pos x) ≡ true → b .marked (neg x) ≡ true → Dies b d → (σ : Assignment) →
+  both-level : (x : ℕ) (b d : Branch) → In n (pos x) → b .marked (pos x) ≡ true → b .marked (neg x) ≡ true → Dies b d →
+      (σ : Assignment) →
       worth H n σ b ≡ worth H n σ d
   unfolding holds variableOf
   both-level x b d h p q t σ = by (σ x) (raw-marked H n σ (pos x) b h p) (raw-marked H n σ (neg x) b h q)
@@ -27,7 +28,8 @@ module _ (H n : ℕ) where
       by false u v = unfold due in (omega (arith, raw-dead H n σ d (t .dead)))
 
   -- one literal hard: where l is true that mark is not met, where it is false its weight was live
-  one-level : (l : Literal) (b d : Branch) → In n l → b .marked (opposite l) ≡ true → Takes l (b .weight l) 0 b d → (σ : Assignment) → worth H n σ b ≡ worth H n σ d
+  one-level : (l : Literal) (b d : Branch) → In n l → b .marked (opposite l) ≡ true → Takes l (b .weight l) 0 b d →
+      (σ : Assignment) → worth H n σ b ≡ worth H n σ d
   one-level l b d h m t σ =
       by (holds σ l) (raw-takes H n σ l (b .weight l) 0 b d h t)
       (rw (opposite-holds σ l) at (raw-marked H n σ (opposite l) b (opposite-in n l h) m))
@@ -42,8 +44,10 @@ module _ (H n : ℕ) where
   soft-level : (l : Literal) (s : ℕ) (b d : Branch) → In n l → Takes l s s b d → (σ : Assignment) → worth H n σ b ≡ worth H n σ d
   soft-level l s b d h t σ = omega (arith, raw-takes H n σ l s s b d h t)
 
-  one-place : (b d : Branch) → Sane n b → d .rules ≡ b .rules → ((σ : Assignment) → worth H n σ b ≡ worth H n σ d) → Fair H n b (d ∷ [])
-  one-place b d s r h = record { even = λ σ. unfold least in (omega (arith, h σ)); sane = (subst (Every (Whole n)) (sym r) s, tt) }
+  one-place : (b d : Branch) → Sane n b → d .rules ≡ b .rules → ((σ : Assignment) → worth H n σ b ≡ worth H n σ d) →
+      Fair H n b (d ∷ [])
+  one-place b d s r h =
+      record { even = λ σ. unfold least in (omega (arith, h σ)); sane = (subst (Every (Whole n)) (sym r) s, tt) }
 
   pub contradict-fair : (x : ℕ) (b d : Branch) → 1 ≤ x → x ≤ n → Sane n b → Contradiction x b (some d) → Fair H n b (d ∷ [])
   unfolding variableOf

@@ -20,18 +20,21 @@ module _ (H n : ℕ) where
       least H n σ (branches w (map single (l ∷ ls)) b) ≡ min H (raw H n σ b + due (falsified σ (l ∷ ls)) (toll H w))
   unfolding branches gain least falsified
   spread σ w l [] b h = rw (and-true (not (holds σ l))) (omega (arith, adds-unit H n σ w l b (h .0)))
-  spread σ w l (k ∷ ks) b h = by (not (holds σ l)) (falsified σ (k ∷ ks)) (adds-unit H n σ w l b (h .0)) (spread σ w k ks b (h .1))
+  spread σ w l (k ∷ ks) b h =
+      by (not (holds σ l)) (falsified σ (k ∷ ks)) (adds-unit H n σ w l b (h .0)) (spread σ w k ks b (h .1))
     where
       rest : ℕ
       rest = least H n σ (branches w (map single (k ∷ ks)) b)
 
-      by : (t u : Bool) → worth H n σ (unitOf w l b) ≡ min H (raw H n σ b + due t (toll H w)) → rest ≡ min H (raw H n σ b + due u (toll H w)) →
+      by : (t u : Bool) → worth H n σ (unitOf w l b) ≡ min H (raw H n σ b + due t (toll H w)) →
+          rest ≡ min H (raw H n σ b + due u (toll H w)) →
           min (worth H n σ (unitOf w l b)) rest ≡ min H (raw H n σ b + due (t && u) (toll H w))
       by true true e f = unfold due in (omega arith)
       by true false e f = unfold due in (omega arith)
       by false u e f = unfold due in (omega arith)
 
-  pub extend-fair : (b : Branch) (i : ℕ) (c : Clause) (bs : List Branch) → Sane n b → clauseAt (b .rules) i ≡ some c → Extension b i c (some bs) → Fair H n b bs
+  pub extend-fair : (b : Branch) (i : ℕ) (c : Clause) (bs : List Branch) → Sane n b → clauseAt (b .rules) i ≡ some c →
+      Extension b i c (some bs) → Fair H n b bs
   extend-fair b i c bs s e (opens l k ks q t u) = record {
     even = λ σ. omega (arith, spread σ (c .weight) l (k ∷ ks) after (literals-in n b i c (l ∷ k ∷ ks) s e q), spent-clause σ);
     sane = branches-each (Sane n) (c .weight) after (l ∷ k ∷ ks)

@@ -47,18 +47,22 @@ unfoldable pub litSum : ℕ → (Literal → ℕ) → ℕ
 litSum n f = sumTo n (λ x. f (pos (suc x)) + f (neg (suc x)))
 
 -- f and g differ at l and its opposite only
-pub litSum-pair : (n : ℕ) (f g : Literal → ℕ) (l : Literal) → In n l → ((k : Literal) → (variableOf k ≡ variableOf l → ⊥) → f k ≡ g k) →
+pub litSum-pair : (n : ℕ) (f g : Literal → ℕ) (l : Literal) → In n l →
+    ((k : Literal) → (variableOf k ≡ variableOf l → ⊥) → f k ≡ g k) →
     litSum n f + (g l + g (opposite l)) ≡ litSum n g + (f l + f (opposite l))
 unfolding litSum variableOf opposite
 litSum-pair n f g (pos zero) h d = absurd (omega arith)
 litSum-pair n f g (neg zero) h d = absurd (omega arith)
-litSum-pair n f g (pos (suc x)) h d = sumTo-at n _ _ x (omega arith) (λ y u. ap₂ _+_ (d (pos (suc y)) (λ q. u (suc-inj q))) (d (neg (suc y)) (λ q. u (suc-inj q))))
+litSum-pair n f g (pos (suc x)) h d =
+    sumTo-at n _ _ x (omega arith) (λ y u. ap₂ _+_ (d (pos (suc y)) (λ q. u (suc-inj q))) (d (neg (suc y)) (λ q. u (suc-inj q))))
 litSum-pair n f g (neg (suc x)) h d =
     omega (arith, sumTo-at n _ _ x (omega arith) (λ y u. ap₂ _+_ (d (pos (suc y)) (λ q. u (suc-inj q))) (d (neg (suc y)) (λ q. u (suc-inj q)))))
 
 -- f and g differ at l only
-litSum-at : (n : ℕ) (f g : Literal → ℕ) (l : Literal) → In n l → ((k : Literal) → (k ≡ l → ⊥) → f k ≡ g k) → litSum n f + g l ≡ litSum n g + f l
-litSum-at n f g l h d = omega (arith, litSum-pair n f g l h (λ k u. d k (λ q. u (ap variableOf q))), d (opposite l) (opposite-apart l))
+litSum-at : (n : ℕ) (f g : Literal → ℕ) (l : Literal) → In n l → ((k : Literal) → (k ≡ l → ⊥) → f k ≡ g k) →
+    litSum n f + g l ≡ litSum n g + f l
+litSum-at n f g l h d =
+    omega (arith, litSum-pair n f g l h (λ k u. d k (λ q. u (ap variableOf q))), d (opposite l) (opposite-apart l))
 
 pub litSum-same : (n : ℕ) (f g : Literal → ℕ) → ((k : Literal) → In n k → f k ≡ g k) → litSum n f ≡ litSum n g
 unfolding litSum variableOf
@@ -96,11 +100,14 @@ module _ (n : ℕ) (l : Literal) (b : Branch) (h : In n l) where
   pub litSum-weight : (F : Literal → ℕ → ℕ) (v : ℕ) →
       litSum n (λ k. F k ((setWeight l v b) .weight k)) + F l (b .weight l) ≡ litSum n (λ k. F k (b .weight k)) + F l v
   litSum-weight F v =
-      rw (set-own l v b) at (litSum-at n (λ k. F k ((setWeight l v b) .weight k)) (λ k. F k (b .weight k)) l h (λ k d. ap (F k) (set-other l v b k d)))
+      rw (set-own l v b) at
+      (litSum-at n (λ k. F k ((setWeight l v b) .weight k)) (λ k. F k (b .weight k)) l h (λ k d. ap (F k) (set-other l v b k d)))
 
   pub litSum-mark : (F : Literal → Bool → ℕ) →
       litSum n (λ k. F k ((mark l b) .marked k)) + F l (b .marked l) ≡ litSum n (λ k. F k (b .marked k)) + F l true
-  litSum-mark F = rw own at (litSum-at n (λ k. F k ((mark l b) .marked k)) (λ k. F k (b .marked k)) l h (λ k d. ap (F k) (other k (same-false k l d))))
+  litSum-mark F =
+      rw own at
+      (litSum-at n (λ k. F k ((mark l b) .marked k)) (λ k. F k (b .marked k)) l h (λ k d. ap (F k) (other k (same-false k l d))))
     where
       own : (mark l b) .marked l ≡ true
       own = unfold mark in (rw (same-self l))

@@ -57,7 +57,8 @@ total-snoc : (cs : List Clause) (c : Clause) → totalOf (cs ++ (c ∷ [])) ≡ 
 unfolding softWeight
 total-snoc cs c = omega (arith, total-sum cs, total-sum (cs ++ (c ∷ [])), fold-snoc _+_ add-left-comm 0 softWeight cs c)
 
-total-put : (cs : List Clause) (i : ℕ) (c : Clause) (w : Weight) → clauseAt cs i ≡ some c → totalOf (putAt cs i w) + softOf (c .weight) ≡ totalOf cs + softOf w
+total-put : (cs : List Clause) (i : ℕ) (c : Clause) (w : Weight) → clauseAt cs i ≡ some c →
+    totalOf (putAt cs i w) + softOf (c .weight) ≡ totalOf cs + softOf w
 unfolding softWeight
 total-put cs i c w e = omega (arith, total-sum cs, total-sum (putAt cs i w), fold-put _+_ add-left-comm 0 softWeight cs i c w e)
 
@@ -108,11 +109,13 @@ module _ (n : ℕ) where
 
   contradict-mass : (x : ℕ) (b d : Branch) → 1 ≤ x → x ≤ n → Contradiction x b (some d) → mass n d ≤ mass n b
   unfolding variableOf
-  contradict-mass x b d lo hi (bothHard p q t) = unfold mass in (omega (arith, t .booked, ap (litSum n) (t .weight), ap totalOf (t .rules)))
+  contradict-mass x b d lo hi (bothHard p q t) =
+      unfold mass in (omega (arith, t .booked, ap (litSum n) (t .weight), ap totalOf (t .rules)))
   contradict-mass x b d lo hi (oneHard l v m w t) = omega (arith, takes-mass l (b .weight l) 0 b d (rw v (lo, hi)) t)
   contradict-mass x b d lo hi (bothSoft s e p t) = omega (arith, takes-mass (pos x) s s b d (lo, hi) t)
 
-  extend-mass : (b : Branch) (i : ℕ) (c : Clause) (bs : List Branch) → Sane n b → clauseAt (b .rules) i ≡ some c → Extension b i c (some bs) →
+  extend-mass : (b : Branch) (i : ℕ) (c : Clause) (bs : List Branch) → Sane n b → clauseAt (b .rules) i ≡ some c →
+      Extension b i c (some bs) →
       Every (λ d. mass n d ≤ mass n b) bs
   extend-mass b i c bs s e (opens l k ks q t u) =
       branches-each (λ d. mass n d ≤ mass n b) (c .weight) (put i (soft 0) b) (l ∷ k ∷ ks) (λ j m.
@@ -129,13 +132,15 @@ module _ (n : ℕ) where
   enter-mass : (w : Weight) (p : Body) (b : Branch) → InBody n p → mass n (enter w p b) ≡ mass n b + softOf w
   unfolding enter numbered several gain
   enter-mass w (clause []) b h = unfold softOf in (omega (arith, mass-keep (soft 0) (clause []) (nothing w b), mass-nothing w b))
-  enter-mass w (clause (l ∷ [])) b h = unfold softOf in (omega (arith, mass-keep (soft 0) (clause (l ∷ [])) (unitOf w l b), mass-unit w l b (h .0)))
+  enter-mass w (clause (l ∷ [])) b h =
+      unfold softOf in (omega (arith, mass-keep (soft 0) (clause (l ∷ [])) (unitOf w l b), mass-unit w l b (h .0)))
   enter-mass w (clause (l ∷ k ∷ ks)) b h = mass-keep w (clause (l ∷ k ∷ ks)) b
 
   pub rootFrom-mass : (b : Branch) (cs : List Clause) → Covered n cs → mass n (rootFrom b cs) ≡ mass n b + totalOf cs
   unfolding rootFrom totalOf
   rootFrom-mass b [] h = omega arith
-  rootFrom-mass b (c ∷ cs) h = omega (arith, rootFrom-mass (enter (c .weight) (c .body) b) cs (h .1), enter-mass (c .weight) (c .body) b (h .0))
+  rootFrom-mass b (c ∷ cs) h =
+      omega (arith, rootFrom-mass (enter (c .weight) (c .body) b) cs (h .1), enter-mass (c .weight) (c .body) b (h .0))
 
   pub root-mass : (cs : List Clause) → Covered n cs → mass n (root cs) ≡ totalOf cs
   unfolding root
@@ -145,15 +150,18 @@ module _ (n : ℕ) where
       empty = unfold mass blank totalOf in (omega (arith, litSum-zero n (λ k. 0) (λ k h. refl)))
 
 -- no record adds to it
-pub stepped-mass : (I : Problem) (k : Claim) (r : Record) (b : Branch) (new : List Branch) → Sane (I .variables) b → Stepped I k b r new →
+pub stepped-mass : (I : Problem) (k : Claim) (r : Record) (b : Branch) (new : List Branch) → Sane (I .variables) b →
+    Stepped I k b r new →
     Every (λ d. mass (I .variables) d ≤ mass (I .variables) b) new
 stepped-mass I k r b new s (closed e) = tt
 stepped-mass I k r b new s (contradicted {b′ = d} x q lo hi c) = (contradict-mass (I .variables) x b d lo hi c, tt)
 stepped-mass I k r b new s (extended i c q e x) = extend-mass (I .variables) b i c new s e x
 
 -- "Total soft weight at most 1,000,000,000,000": along a path nothing passes the instance's total.
-pub path-mass : (I : Problem) (k : Claim) → Fits I → {b : Branch} {e c : ℕ} → Path I k b e c → mass (I .variables) b ≤ totalOf (I .clauses)
+pub path-mass : (I : Problem) (k : Claim) → Fits I → {b : Branch} {e c : ℕ} → Path I k b e c →
+    mass (I .variables) b ≤ totalOf (I .clauses)
 path-mass I k fits h =
     path-kept I k (λ b. Sane (I .variables) b × (mass (I .variables) b ≤ totalOf (I .clauses)))
     (sane-root (I .variables) (I .clauses) fits, omega (arith, root-mass (I .variables) (I .clauses) fits))
-    (λ r b new p d. every-join (λ x s l. (s, omega (arith, p .1))) new (stepped-sane I k r b new (p .0) d) (stepped-mass I k r b new (p .0) d)) h .1
+    (λ r b new p d.
+    every-join (λ x s l. (s, omega (arith, p .1))) new (stepped-sane I k r b new (p .0) d) (stepped-mass I k r b new (p .0) d)) h .1

@@ -39,7 +39,8 @@ keep-count w p b = omega (arith, length-append (b .rules) (record { weight = w; 
 enter-count : (w : Weight) (p : Body) (b : Branch) → length ((enter w p b) .rules) ≡ suc (length (b .rules))
 unfolding enter numbered several gain
 enter-count w (clause []) b = keep-count (soft 0) (clause []) (nothing w b) ∙ ap (λ cs. suc (length cs)) (nothing-leaves w b)
-enter-count w (clause (l ∷ [])) b = keep-count (soft 0) (clause (l ∷ [])) (unitOf w l b) ∙ ap (λ cs. suc (length cs)) ((unit-leaves w l b) .rules)
+enter-count w (clause (l ∷ [])) b =
+    keep-count (soft 0) (clause (l ∷ [])) (unitOf w l b) ∙ ap (λ cs. suc (length cs)) ((unit-leaves w l b) .rules)
 enter-count w (clause (l ∷ k ∷ ks)) b = keep-count w (clause (l ∷ k ∷ ks)) b
 
 rootFrom-count : (b : Branch) (cs : List Clause) → length ((rootFrom b cs) .rules) ≡ length (b .rules) + length cs
@@ -78,7 +79,8 @@ module _ (I : Problem) (k : Claim) where
   stepped-range r b new h (extended i c q e x) = let l = clauseAt-range (b .rules) i c e in (l .0, omega (arith, l .1))
 
   -- Each number that Write writes is that of a clause or a variable of the instance.
-  pub write-range : (fuel room at : ℕ) (rs : List Record) → writeFrom I k fuel room at (root (I .clauses) ∷ []) ≡ wrote rs → Every (InRange I) rs
+  pub write-range : (fuel room at : ℕ) (rs : List Record) → writeFrom I k fuel room at (root (I .clauses) ∷ []) ≡ wrote rs →
+      Every (InRange I) rs
   write-range fuel room at rs e = wrote-kept I k room (Every (Full I)) (λ bs. Every (InRange I)) (record {
     end = tt;
     next = λ b bs m h c. every-append (Full I) (m .places) bs (stepped-full (m .chosen) b (m .places) (h .0) (c .did)) (h .1);

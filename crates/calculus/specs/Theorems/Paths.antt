@@ -24,10 +24,13 @@ use Rattle.calculus.specs.Theorems.Unchanged.{Gained, contradiction-leav
 module _ (I : Problem) (k : Claim) where
   -- what holds at the root and is kept by every record
   pub path-kept : (P : Branch → Type 0) → P (root (I .clauses)) →
-      ((r : Record) (b : Branch) (new : List Branch) → P b → Stepped I k b r new → Every P new) → {b : Branch} {e c : ℕ} → Path I k b e c → P b
+      ((r : Record) (b : Branch) (new : List Branch) → P b → Stepped I k b r new → Every P new) →
+      {b : Branch} {e c : ℕ} → Path I k b e c → P b
   path-kept P z f start = z
-  path-kept P z f (extends {b = b} {bs = bs} i h q m) = every-among P bs (f (E i) b bs (path-kept P z f h) (went I k b (E i) bs q)) m
-  path-kept P z f (contradicts {b = b} {bs = bs} x h q m) = every-among P bs (f (C x) b bs (path-kept P z f h) (went I k b (C x) bs q)) m
+  path-kept P z f (extends {b = b} {bs = bs} i h q m) =
+      every-among P bs (f (E i) b bs (path-kept P z f h) (went I k b (E i) bs q)) m
+  path-kept P z f (contradicts {b = b} {bs = bs} x h q m) =
+      every-among P bs (f (C x) b bs (path-kept P z f h) (went I k b (C x) bs q)) m
 
   pub path-sane : Fits I → {b : Branch} {e c : ℕ} → Path I k b e c → Sane (I .variables) b
   path-sane fits = path-kept (Sane (I .variables)) (sane-root (I .variables) (I .clauses) fits) (stepped-sane I k)
@@ -41,14 +44,16 @@ module _ (I : Problem) (k : Claim) where
     pub extensions : e + remaining (b .rules) ≤ length (I .clauses)
     pub contradictions : c + potential (I .variables) b ≤ length (I .clauses)
 
-  extends-bounded : (i : ℕ) (b : Branch) (bs : List Branch) (e c : ℕ) → Sane (I .variables) b → Stepped I k b (E i) bs → Bounded b e c → Every (λ d. Bounded d (suc e) c) bs
+  extends-bounded : (i : ℕ) (b : Branch) (bs : List Branch) (e c : ℕ) → Sane (I .variables) b → Stepped I k b (E i) bs →
+      Bounded b e c → Every (λ d. Bounded d (suc e) c) bs
   extends-bounded i b bs e c s (extended _ r a p x) w =
       every-join (λ d (g : Gained (put i (soft 0) b) d) (l : potential (I .variables) d ≤ potential (I .variables) b). record {
         extensions = omega (arith, w .extensions, ap remaining (g .rules), extension-remaining b i r bs p x);
         contradictions = omega (arith, w .contradictions);
       }) bs (extension-leaves b i r bs x) (extend-potential (I .variables) b i r bs s p x)
 
-  contradicts-bounded : (x : ℕ) (b : Branch) (bs : List Branch) (e c : ℕ) → Stepped I k b (C x) bs → Bounded b e c → Every (λ d. Bounded d e (suc c)) bs
+  contradicts-bounded : (x : ℕ) (b : Branch) (bs : List Branch) (e c : ℕ) → Stepped I k b (C x) bs → Bounded b e c →
+      Every (λ d. Bounded d e (suc c)) bs
   contradicts-bounded x b bs e c (contradicted {b′ = d} _ a lo hi y) w = (
     record {
       extensions = omega (arith, w .extensions, ap remaining ((contradiction-leaves x b d y) .rules));
@@ -62,7 +67,8 @@ module _ (I : Problem) (k : Claim) where
       let l = root-potential (I .variables) (I .clauses) fits in
       record { extensions = omega (arith, remaining-potential (I .variables) (root (I .clauses))); contradictions = omega arith }
   path-bounded fits (extends {b = b} {bs = bs} {e = e} {c = c} i h q m) =
-      every-among (λ d. Bounded d (suc e) c) bs (extends-bounded i b bs e c (path-sane fits h) (went I k b (E i) bs q) (path-bounded fits h)) m
+      every-among (λ d. Bounded d (suc e) c) bs
+      (extends-bounded i b bs e c (path-sane fits h) (went I k b (E i) bs q) (path-bounded fits h)) m
   path-bounded fits (contradicts {b = b} {bs = bs} {e = e} {c = c} x h q m) =
       every-among (λ d. Bounded d e (suc c)) bs (contradicts-bounded x b bs e c (went I k b (C x) bs q) (path-bounded fits h)) m
 

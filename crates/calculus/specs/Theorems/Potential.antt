@@ -79,11 +79,13 @@ positive-pair (suc v) (suc w) h = absurd (omega arith)
 
 module _ (n : ℕ) where
   -- ---- the single changes
-  weighted-set : (l : Literal) (v : ℕ) (b : Branch) → In n l → weighted n (setWeight l v b) + positive (b .weight l) ≡ weighted n b + positive v
+  weighted-set : (l : Literal) (v : ℕ) (b : Branch) → In n l →
+      weighted n (setWeight l v b) + positive (b .weight l) ≡ weighted n b + positive v
   unfolding weighted
   weighted-set l v b h = litSum-weight n l b h (λ k u. positive u) v
 
-  rules-potential : (cs : List Clause) (b : Branch) → potential n (withRules cs b) + remaining (b .rules) ≡ potential n b + remaining cs
+  rules-potential : (cs : List Clause) (b : Branch) →
+      potential n (withRules cs b) + remaining (b .rules) ≡ potential n b + remaining cs
   unfolding potential weighted marks withRules
   rules-potential cs b = omega arith
 
@@ -100,7 +102,8 @@ module _ (n : ℕ) where
           litSum n (λ k. positive (b .weight k)) + due t (marks n b) + remaining (b .rules) + 1
       by true q = unfold due in (omega arith)
       by false q = unfold due in (omega arith)
-  unit-potential (soft w) l b h = unfold setWeight marks in (omega (arith, weighted-set l (b .weight l + w) b h, positive-most (b .weight l + w)))
+  unit-potential (soft w) l b h =
+      unfold setWeight marks in (omega (arith, weighted-set l (b .weight l + w) b h, positive-most (b .weight l + w)))
 
   nothing-potential : (w : Weight) (b : Branch) → potential n (nothing w b) ≤ potential n b
   unfolding nothing potential weighted marks kill book due
@@ -110,7 +113,8 @@ module _ (n : ℕ) where
   -- ---- the records
   -- a contradiction takes one away
   takes-potential : (l : Literal) (v w : ℕ) (b d : Branch) → In n l → Takes l v w b d →
-      1 + (positive (d .weight l) + positive (d .weight (opposite l))) ≤ positive (b .weight l) + positive (b .weight (opposite l)) → 1 + potential n d ≤ potential n b
+      1 + (positive (d .weight l) + positive (d .weight (opposite l))) ≤ positive (b .weight l) + positive (b .weight (opposite l)) →
+      1 + potential n d ≤ potential n b
   unfolding potential weighted marks
   takes-potential l v w b d h t less =
       omega (
@@ -120,7 +124,8 @@ module _ (n : ℕ) where
         ap remaining (t .rules),
       )
 
-  dies-potential : (l : Literal) (b d : Branch) → In n l → b .dead ≡ false → b .marked l ≡ true → Dies b d → 1 + potential n d ≤ potential n b
+  dies-potential : (l : Literal) (b d : Branch) → In n l → b .dead ≡ false → b .marked l ≡ true → Dies b d →
+      1 + potential n d ≤ potential n b
   unfolding potential weighted marks
   dies-potential l b d h q m t =
       omega (
@@ -141,12 +146,18 @@ module _ (n : ℕ) where
       one : 1 ≤ litSum n (λ k. due (b .marked k) 1)
       one = unfold due in (rw m at (litSum-ge n (λ k. due (b .marked k) 1) l h))
 
-  pub contradict-potential : (x : ℕ) (b d : Branch) → 1 ≤ x → x ≤ n → b .dead ≡ false → Contradiction x b (some d) → 1 + potential n d ≤ potential n b
+  pub contradict-potential : (x : ℕ) (b d : Branch) → 1 ≤ x → x ≤ n → b .dead ≡ false → Contradiction x b (some d) →
+      1 + potential n d ≤ potential n b
   unfolding variableOf opposite
   contradict-potential x b d lo hi q (bothHard p r t) = dies-potential (pos x) b d (lo, hi) q p t
   contradict-potential x b d lo hi q (oneHard l v m w t) =
       takes-potential l (b .weight l) 0 b d (rw v (lo, hi)) t
-      (omega (arith, positive-is (b .weight l) w, positive-not (d .weight l) (omega (arith, t .own)), ap positive (unchanged (t .other))))
+      (omega (
+        arith,
+        positive-is (b .weight l) w,
+        positive-not (d .weight l) (omega (arith, t .own)),
+        ap positive (unchanged (t .other)),
+      ))
     where
       unchanged : {u v : ℕ} → u + 0 ≡ v → u ≡ v
       unchanged e = omega arith
@@ -160,11 +171,13 @@ module _ (n : ℕ) where
       ))
 
   -- an extension takes a clause away and brings a unit
-  put-potential : (b : Branch) (i : ℕ) (c : Clause) → clauseAt (b .rules) i ≡ some c → spent (c .weight) ≡ false → 1 + potential n (put i (soft 0) b) ≡ potential n b
+  put-potential : (b : Branch) (i : ℕ) (c : Clause) → clauseAt (b .rules) i ≡ some c → spent (c .weight) ≡ false →
+      1 + potential n (put i (soft 0) b) ≡ potential n b
   unfolding put withRules
   put-potential b i c e u = omega (arith, rules-potential (putAt (b .rules) i (soft 0)) b, remaining-put b i c e u)
 
-  pub extend-potential : (b : Branch) (i : ℕ) (c : Clause) (bs : List Branch) → Sane n b → clauseAt (b .rules) i ≡ some c → Extension b i c (some bs) →
+  pub extend-potential : (b : Branch) (i : ℕ) (c : Clause) (bs : List Branch) → Sane n b → clauseAt (b .rules) i ≡ some c →
+      Extension b i c (some bs) →
       Every (λ d. potential n d ≤ potential n b) bs
   extend-potential b i c bs s e (opens l k ks q t u) =
       branches-each (λ d. potential n d ≤ potential n b) (c .weight) (put i (soft 0) b) (l ∷ k ∷ ks) (λ j m.
@@ -175,7 +188,8 @@ module _ (n : ℕ) where
       ))
 
   -- ---- the root
-  keep-potential : (w : Weight) (p : Body) (b : Branch) → potential n (keep w p b) + remaining (b .rules) ≡ potential n b + remaining ((keep w p b) .rules)
+  keep-potential : (w : Weight) (p : Body) (b : Branch) →
+      potential n (keep w p b) + remaining (b .rules) ≡ potential n b + remaining ((keep w p b) .rules)
   unfolding keep withRules
   keep-potential w p b = rules-potential (b .rules ++ (record { weight = w; body = p } ∷ [])) b
 
@@ -184,13 +198,20 @@ module _ (n : ℕ) where
   enter-potential w (clause []) b h =
       omega (arith, keep-potential (soft 0) (clause []) (nothing w b), remaining-spent (clause []) (nothing w b), nothing-potential w b)
   enter-potential w (clause (l ∷ [])) b h =
-      omega (arith, keep-potential (soft 0) (clause (l ∷ [])) (unitOf w l b), remaining-spent (clause (l ∷ [])) (unitOf w l b), unit-potential w l b (h .0))
-  enter-potential w (clause (l ∷ k ∷ ks)) b h = omega (arith, keep-potential w (clause (l ∷ k ∷ ks)) b, remaining-keep w (clause (l ∷ k ∷ ks)) b)
+      omega (
+        arith,
+        keep-potential (soft 0) (clause (l ∷ [])) (unitOf w l b),
+        remaining-spent (clause (l ∷ [])) (unitOf w l b),
+        unit-potential w l b (h .0),
+      )
+  enter-potential w (clause (l ∷ k ∷ ks)) b h =
+      omega (arith, keep-potential w (clause (l ∷ k ∷ ks)) b, remaining-keep w (clause (l ∷ k ∷ ks)) b)
 
   rootFrom-potential : (b : Branch) (cs : List Clause) → Covered n cs → potential n (rootFrom b cs) ≤ potential n b + length cs
   unfolding rootFrom
   rootFrom-potential b [] h = omega arith
-  rootFrom-potential b (c ∷ cs) h = omega (arith, rootFrom-potential (enter (c .weight) (c .body) b) cs (h .1), enter-potential (c .weight) (c .body) b (h .0))
+  rootFrom-potential b (c ∷ cs) h =
+      omega (arith, rootFrom-potential (enter (c .weight) (c .body) b) cs (h .1), enter-potential (c .weight) (c .body) b (h .0))
 
   pub root-potential : (cs : List Clause) → Covered n cs → potential n (root cs) ≤ length cs
   unfolding root

@@ -85,11 +85,13 @@ module _ (n : ℕ) (σ : Assignment) where
   one-of H v [] l e = absurd (omega arith)
   one-of H v (b ∷ bs) l e = by (ℕ-discrete (worth H n σ b) v) (one-of H v bs l)
     where
-      by : Dec (worth H n σ b ≡ v) → (least H n σ bs ≡ v → (d : Branch) × Among d bs × (worth H n σ d ≡ v)) → (d : Branch) × Among d (b ∷ bs) × (worth H n σ d ≡ v)
+      by : Dec (worth H n σ b ≡ v) → (least H n σ bs ≡ v → (d : Branch) × Among d bs × (worth H n σ d ≡ v)) →
+          (d : Branch) × Among d (b ∷ bs) × (worth H n σ d ≡ v)
       by (yes q) r = (b, List·Memᴰ·head refl, q)
       by (no q) r = let t = r (omega arith) in (t .0, List·Memᴰ·tail (t .1), t .2)
 
-  pub kept-in-one : (b : Branch) (bs : List Branch) → Admits n σ b → ((H : ℕ) → Fair H n b bs) → (d : Branch) × Among d bs × Kept b d
+  pub kept-in-one : (b : Branch) (bs : List Branch) → Admits n σ b → ((H : ℕ) → Fair H n b bs) →
+      (d : Branch) × Among d bs × Kept b d
   kept-in-one b bs a f =
       let H = suc (reckoned n σ b) in
       let t = one-of H (reckoned n σ b) bs (omega arith) (sym ((f H) .even σ) ∙ omega (arith, raw-reckoned H b a)) in
@@ -127,7 +129,8 @@ unit-reckoned : (n : ℕ) (σ : Assignment) (w : Weight) (l : Literal) (b : Bran
     reckoned n σ b + priced w (not (holds σ l)) ≤ reckoned n σ (unitOf w l b)
 unfolding live unitOf
 unit-reckoned n σ hard l b h = unfold mark priced in (omega arith)
-unit-reckoned n σ (soft w) l b h = unfold setWeight in (by (not (holds σ l)) (litSum-weight n l b h (λ k u. due (not (holds σ k)) u) (b .weight l + w)))
+unit-reckoned n σ (soft w) l b h =
+    unfold setWeight in (by (not (holds σ l)) (litSum-weight n l b h (λ k u. due (not (holds σ k)) u) (b .weight l + w)))
   where
     U : Branch → ℕ
     U d = litSum n (λ k. due (not (holds σ k)) (d .weight k))
@@ -143,7 +146,8 @@ unfolding falsified
 each-false σ [] f = tt
 each-false σ (l ∷ ls) f = let r = and-eq-true-iff (not (holds σ l)) (falsified σ ls) .0 f in (r .0, each-false σ ls (r .1))
 
-literal-price : (σ : Assignment) (w : Weight) (ls : List Literal) → Every (λ l. priced w (falsified σ ls) ≤ priced w (not (holds σ l))) ls
+literal-price : (σ : Assignment) (w : Weight) (ls : List Literal) →
+    Every (λ l. priced w (falsified σ ls) ≤ priced w (not (holds σ l))) ls
 literal-price σ w ls = by (falsified σ ls) refl
   where
     free : (w : Weight) → priced w false ≡ 0
@@ -158,7 +162,8 @@ literal-price σ w ls = by (falsified σ ls) refl
     by true f = every-weaken (λ l (e : not (holds σ l) ≡ true). le-of-eq (ap (priced w) (sym e))) ls (each-false σ ls f)
     by false f = none ls
 
-pub extend-unlowered : (n : ℕ) (σ : Assignment) (b : Branch) (i : ℕ) (c : Clause) (bs : List Branch) → Sane n b → clauseAt (b .rules) i ≡ some c →
+pub extend-unlowered : (n : ℕ) (σ : Assignment) (b : Branch) (i : ℕ) (c : Clause) (bs : List Branch) → Sane n b →
+    clauseAt (b .rules) i ≡ some c →
     Extension b i c (some bs) → Every (λ d. reckoned n σ b ≤ reckoned n σ d) bs
 extend-unlowered n σ b i c bs s e (opens l k ks q t u) =
     branches-each (λ d. reckoned n σ b ≤ reckoned n σ d) (c .weight) (put i (soft 0) b) ls (λ j m.

@@ -23,21 +23,28 @@ module _ (H n : ℕ) (σ : Assignment) where
   unfolding enter
   adds-enter w p b h = by (numbered p)
     where
-      by : (t : Bool) → Adds H n σ (due (broken σ p) (toll H w)) b (elim t as (λ _. Branch) [ true ↦ gain w p b | false ↦ keep (soft 0) p (gain w p b) ])
+      by : (t : Bool) →
+          Adds H n σ (due (broken σ p) (toll H w)) b
+          (elim t as (λ _. Branch) [ true ↦ gain w p b | false ↦ keep (soft 0) p (gain w p b) ])
       by true = adds-gain H n σ w p b h
-      by false = unfold toll in (omega (arith, raw-keep H n σ (soft 0) p (gain w p b), due-zero (broken σ p), adds-gain H n σ w p b h))
+      by false =
+          unfold toll in (omega (arith, raw-keep H n σ (soft 0) p (gain w p b), due-zero (broken σ p), adds-gain H n σ w p b h))
 
-  rootFrom-worth : (b : Branch) (cs : List Clause) → Covered n cs → worth H n σ (rootFrom b cs) ≡ min H (raw H n σ b + bill H σ cs)
+  rootFrom-worth : (b : Branch) (cs : List Clause) → Covered n cs →
+      worth H n σ (rootFrom b cs) ≡ min H (raw H n σ b + bill H σ cs)
   unfolding rootFrom fold charge
   rootFrom-worth b [] h = omega arith
-  rootFrom-worth b (c ∷ cs) h = omega (arith, rootFrom-worth (enter (c .weight) (c .body) b) cs (h .1), adds-enter (c .weight) (c .body) b (h .0))
+  rootFrom-worth b (c ∷ cs) h =
+      omega (arith, rootFrom-worth (enter (c .weight) (c .body) b) cs (h .1), adds-enter (c .weight) (c .body) b (h .0))
 
   pub root-worth : (cs : List Clause) → Covered n cs → worth H n σ (root cs) ≡ min H (bill H σ cs)
   unfolding root
   root-worth cs h = omega (arith, rootFrom-worth blank cs h, empty)
     where
       empty : raw H n σ blank ≡ 0
-      empty = unfold raw blank units unitToll due fold in (omega (arith, litSum-zero n (λ k. due (not (holds σ k)) 0) (λ k h. due-zero (not (holds σ k)))))
+      empty =
+          unfold raw blank units unitToll due fold in (
+          omega (arith, litSum-zero n (λ k. due (not (holds σ k)) 0) (λ k h. due-zero (not (holds σ k)))))
 
   -- the bill of an assignment that meets the hard clauses is its cost
   pub bill-cost : (cs : List Clause) → feasible σ cs ≡ true → bill H σ cs ≡ cost σ cs

@@ -50,7 +50,8 @@ module _ (I : Problem) where
 
   module _ (k : Claim) where
     -- each kind of record by its own lemma
-    pub stepped-fair : (H : ℕ) → Caps k H → (r : Record) (b : Branch) (new : List Branch) → Sane n b → Stepped I k b r new → Fair H n b new
+    pub stepped-fair : (H : ℕ) → Caps k H → (r : Record) (b : Branch) (new : List Branch) → Sane n b → Stepped I k b r new →
+        Fair H n b new
     stepped-fair H q r b new s (closed e) = record { even = λ σ. unfold least in (omega (arith, closes k H q b e σ)); sane = tt }
     stepped-fair H q r b new s (contradicted {b′ = b′} x d lo hi c) = contradict-fair H n x b b′ lo hi s c
     stepped-fair H q r b new s (extended i c d e x) = extend-fair H n b i c new s e x
@@ -86,7 +87,8 @@ module _ (I : Problem) where
       })
 
       -- so every assignment's bill is the cap at least
-      pub accepted-bill : Fits I → (is : List Item) (at m : ℕ) (c : Claim) (a : ℕ) → walk I k is at m (root (I .clauses) ∷ []) ≡ Accepted c a →
+      pub accepted-bill : Fits I → (is : List Item) (at m : ℕ) (c : Claim) (a : ℕ) →
+          walk I k is at m (root (I .clauses) ∷ []) ≡ Accepted c a →
           (σ : Assignment) → H ≤ bill H σ (I .clauses)
       unfolding least
       accepted-bill fits is at m c a e σ =
@@ -97,7 +99,8 @@ module _ (I : Problem) where
           )
 
   -- Demand 2: an accepted derivation's claim is true.
-  pub sound : Fits I → (k : Claim) (is : List Item) (at m : ℕ) (c : Claim) (a : ℕ) → walk I k is at m (root (I .clauses) ∷ []) ≡ Accepted c a → True I k
+  pub sound : Fits I → (k : Claim) (is : List Item) (at m : ℕ) (c : Claim) (a : ℕ) →
+      walk I k is at m (root (I .clauses) ∷ []) ≡ Accepted c a → True I k
   sound fits (Minimum v) is at m c a e =
       λ σ f. omega (arith, accepted-bill (Minimum v) v refl fits is at m c a e σ, bill-cost v n σ (I .clauses) f)
   sound fits Infeasible is at m c a e = λ σ. by σ (feasible σ (I .clauses)) refl

@@ -17,8 +17,10 @@ use Rattle.calculus.specs.Theorems.Cases.{Contradiction, contradiction, 
 
 pub data Stepped (I : Problem) (k : Claim) (b : Branch) : Record → List Branch → Type 0 where
   closed : closable k b ≡ true → Stepped I k b Q []
-  contradicted : {b′ : Branch} (x : ℕ) → b .dead ≡ false → 1 ≤ x → x ≤ I .variables → Contradiction x b (some b′) → Stepped I k b (C x) (b′ ∷ [])
-  extended : {bs : List Branch} (i : ℕ) (c : Clause) → b .dead ≡ false → clauseAt (b .rules) i ≡ some c → Extension b i c (some bs) → Stepped I k b (E i) bs
+  contradicted : {b′ : Branch} (x : ℕ) → b .dead ≡ false → 1 ≤ x → x ≤ I .variables → Contradiction x b (some b′) →
+      Stepped I k b (C x) (b′ ∷ [])
+  extended : {bs : List Branch} (i : ℕ) (c : Clause) → b .dead ≡ false → clauseAt (b .rules) i ≡ some c →
+      Extension b i c (some bs) → Stepped I k b (E i) bs
 
 -- of a step that is not refused
 abbrev pub OnGo : (List Branch → Type 0) → Step → Type 0
@@ -30,7 +32,8 @@ module _ (I : Problem) (k : Claim) (b : Branch) where
   unfolding extending
   extending-is i d = at (clauseAt (b .rules) i) refl
     where
-      offers : (c : Clause) → clauseAt (b .rules) i ≡ some c → (o : Option (List Branch)) → Extension b i c o → OnGo (Stepped I k b (E i)) (offered o)
+      offers : (c : Clause) → clauseAt (b .rules) i ≡ some c → (o : Option (List Branch)) → Extension b i c o →
+          OnGo (Stepped I k b (E i)) (offered o)
       offers c e none h = unfold offered in tt
       offers c e (some bs) h = unfold offered in (extended i c d e h)
 
@@ -59,12 +62,14 @@ module _ (I : Problem) (k : Claim) (b : Branch) where
   unfolding step closing
   stepped (E i) = by (b .dead) refl
     where
-      by : (t : Bool) → b .dead ≡ t → OnGo (Stepped I k b (E i)) (elim t as (λ _. Step) [ true ↦ stop 17 | false ↦ extending i b ])
+      by : (t : Bool) → b .dead ≡ t →
+          OnGo (Stepped I k b (E i)) (elim t as (λ _. Step) [ true ↦ stop 17 | false ↦ extending i b ])
       by true d = tt
       by false d = extending-is i d
   stepped (C x) = by (b .dead) refl
     where
-      by : (t : Bool) → b .dead ≡ t → OnGo (Stepped I k b (C x)) (elim t as (λ _. Step) [ true ↦ stop 17 | false ↦ contradicting I x b ])
+      by : (t : Bool) → b .dead ≡ t →
+          OnGo (Stepped I k b (C x)) (elim t as (λ _. Step) [ true ↦ stop 17 | false ↦ contradicting I x b ])
       by true d = tt
       by false d = contradicting-is x d
   stepped Q = by (closable k b) refl
@@ -88,6 +93,7 @@ module _ (I : Problem) (k : Claim) (b : Branch) where
   unfolding step contradicting
   step-contradicts x d lo hi = alive (contradicting I x b) d ∙ rw (le-leb 1 x lo, le-leb x (I .variables) hi, contradicting)
 
-  pub step-extends : (i : ℕ) (c : Clause) → b .dead ≡ false → clauseAt (b .rules) i ≡ some c → step I k (E i) b ≡ offered (extend b i c)
+  pub step-extends : (i : ℕ) (c : Clause) → b .dead ≡ false → clauseAt (b .rules) i ≡ some c →
+      step I k (E i) b ≡ offered (extend b i c)
   unfolding step extending
   step-extends i c d e = alive (extending i b) d ∙ rw (e, extending)

@@ -97,7 +97,8 @@ module _ (H : ℕ) (I : Problem) (k : Claim) (b : Branch) (s : Stuck I k b) (san
   found-bill = sum-zero (charge H (found b)) (b .rules) (every-of (λ c. charge H (found b) c ≡ 0) (b .rules) each)
     where
       each : (i : ℕ) (c : Clause) → clauseAt (b .rules) i ≡ some c → charge H (found b) c ≡ 0
-      each i c e = free i c (every-at (Whole n) (b .rules) i c sane e) (subst (Extension b i c) (s .no-extension i c e) (extension b i c))
+      each i c e =
+          free i c (every-at (Whole n) (b .rules) i c sane e) (subst (Extension b i c) (s .no-extension i c e) (extension b i c))
 
   found-raw : raw H n (found b) b ≡ b .booked
   unfolding raw

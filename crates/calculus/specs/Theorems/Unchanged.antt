@@ -35,6 +35,8 @@ unfolding nothing kill book
 nothing-leaves hard b = refl
 nothing-leaves (soft w) b = refl
 
-pub extension-leaves : (b : Branch) (i : ℕ) (c : Clause) (bs : List Branch) → Extension b i c (some bs) → Every (Gained (put i (soft 0) b)) bs
+pub extension-leaves : (b : Branch) (i : ℕ) (c : Clause) (bs : List Branch) → Extension b i c (some bs) →
+    Every (Gained (put i (soft 0) b)) bs
 extension-leaves b i c bs (opens l k ks q t u) =
-    branches-each (Gained (put i (soft 0) b)) (c .weight) (put i (soft 0) b) (l ∷ k ∷ ks) (λ j m. unit-leaves (c .weight) j (put i (soft 0) b))
+    branches-each (Gained (put i (soft 0) b)) (c .weight) (put i (soft 0) b) (l ∷ k ∷ ks)
+    (λ j m. unit-leaves (c .weight) j (put i (soft 0) b))

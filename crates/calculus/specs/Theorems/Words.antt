@@ -52,17 +52,19 @@ module _ (I : Problem) (fits : Fits I) (k : Claim) (σ : Assignment) where
       let H = suc (cost σ (I .clauses)) in
       raw-admits n σ H (root (I .clauses)) (omega (arith, root-worth H n σ (I .clauses) fits, bill-cost H n σ (I .clauses) f))
 
-  contradiction-admits : (x : ℕ) (b d : Branch) → 1 ≤ x → x ≤ n → Sane n b → Contradiction x b (some d) → Admits n σ b → Kept n σ b d
+  contradiction-admits : (x : ℕ) (b d : Branch) → 1 ≤ x → x ≤ n → Sane n b → Contradiction x b (some d) → Admits n σ b →
+      Kept n σ b d
   contradiction-admits x b d lo hi s c a =
       let t = kept-in-one n σ b (d ∷ []) a (λ H. contradict-fair H n x b d lo hi s c) in
       subst (Kept n σ b) (List·Memᴰ·eq-of-singleton (t .1)) (t .2)
 
   -- what a record leaves of an assignment that meets the marks
-  stepped-admits : (r : Record) (b : Branch) (new : List Branch) → Sane n b → (MeetsMarks n σ b → Admits n σ b) → Stepped I k b r new →
+  stepped-admits : (r : Record) (b : Branch) (new : List Branch) → Sane n b → (MeetsMarks n σ b → Admits n σ b) →
+      Stepped I k b r new →
       Every (λ d. MeetsMarks n σ d → Admits n σ d) new
   stepped-admits r b new s a (closed e) = tt
   stepped-admits r b new s a (contradicted {b′ = d} x q lo hi c) =
-      ((λ m. contradiction-admits x b d lo hi s c (a (subst (λ f. (l : Literal) → In n l → f l ≡ true → holds σ l ≡ true) ((contradiction-leaves x b d c) .marked) m)) .0), tt)
+      ((λ m. contradiction-admits x b d lo hi s c (a (λ l i q. m l i (ap (λ f. f l) ((contradiction-leaves x b d c) .marked) ∙ q))) .0), tt)
   stepped-admits r b new s a (extended i c q e x) = every-weaken one new (extension-leaves b i c new x)
     where
       one : (d : Branch) → Gained (put i (soft 0) b) d → MeetsMarks n σ d → Admits n σ d
@@ -77,21 +79,28 @@ module _ (I : Problem) (fits : Fits I) (k : Claim) (σ : Assignment) where
   path-admits : {b : Branch} {e c : ℕ} → Path I k b e c → Meets I σ b → Admits n σ b
   path-admits h m =
       path-kept I k (λ b. Sane n b × (MeetsMarks n σ b → Admits n σ b)) (sane-root n (I .clauses) fits, λ q. root-admits (m .hards))
-      (λ r b new p d. every-join (λ x s f. (s, f)) new (stepped-sane I k r b new (p .0) d) (stepped-admits r b new (p .0) (p .1) d)) h .1 (m .marks)
+      (λ r b new p d.
+      every-join (λ x s f. (s, f)) new (stepped-sane I k r b new (p .0) d) (stepped-admits r b new (p .0) (p .1) d)) h .1 (m .marks)
 
   module _ {b : Branch} {e c : ℕ} (path : Path I k b e c) (meets : Meets I σ b) where
     -- "Along a path, for each assignment that meets all hard clauses and the path's hard marks, booked cost plus falsified live
     -- weight is unchanged by a contradiction."
-    pub contradiction-keeps : (x : ℕ) (d : Branch) → 1 ≤ x → x ≤ n → contradict x b ≡ some d → Meets I σ d × (reckoned n σ d ≡ reckoned n σ b)
+    pub contradiction-keeps : (x : ℕ) (d : Branch) → 1 ≤ x → x ≤ n → contradict x b ≡ some d →
+        Meets I σ d × (reckoned n σ d ≡ reckoned n σ b)
     contradiction-keeps x d lo hi q =
-        let t = contradiction-admits x b d lo hi (path-sane I k fits path) (subst (Contradiction x b) q (contradiction x b)) (path-admits path meets) in
+        let c = subst (Contradiction x b) q (contradiction x b) in
+        let t = contradiction-admits x b d lo hi (path-sane I k fits path) c (path-admits path meets) in
         (record { hards = meets .hards; marks = t .0 .marks }, t .1)
 
     -- "An extension keeps it in at least one branch and lowers it in none."
-    pub extension-keeps : (i : ℕ) (r : Clause) (bs : List Branch) → clauseAt (b .rules) i ≡ some r → extend b i r ≡ some bs → Preserved I σ b bs
+    pub extension-keeps : (i : ℕ) (r : Clause) (bs : List Branch) → clauseAt (b .rules) i ≡ some r → extend b i r ≡ some bs →
+        Preserved I σ b bs
     extension-keeps i r bs p q =
         let t = kept-in-one n σ b bs (path-admits path meets) (λ H. extend-fair H n b i r bs sane p x) in
-        record { kept = (t .0, t .1, record { hards = meets .hards; marks = t .2 .0 .marks }, t .2 .1); unlowered = extend-unlowered n σ b i r bs sane p x }
+        record {
+          kept = (t .0, t .1, record { hards = meets .hards; marks = t .2 .0 .marks }, t .2 .1);
+          unlowered = extend-unlowered n σ b i r bs sane p x;
+        }
       where
         sane : Sane n b
         sane = path-sane I k fits path

@@ -7,7 +7,7 @@ use mathlib.Core.Option.{some}
 use mathlib.Core.Path.{_≡_, refl, ap, sym, subst}
 use native.Mathlib.Nat.{add-left-comm}
 use native.Mathlib.Omega.{arith}
-use Rattle.instance.specs.Clause.{Literal, Weight, hard, soft, Body, clause, Clause, opposite, clauseAt}
+use Rattle.instance.specs.Clause.{Literal, Weight, hard, soft, Body, clause, Clause, variableOf, opposite, clauseAt}
 use Rattle.instance.specs.Meaning.{Assignment, holds, falsified, broken}
 use Rattle.instance.specs.Within.{In, InBody}
 use Rattle.calculus.specs.Branch.{Branch, setWeight, mark, book, kill, withRules, keep, put, unitOf, nothing, gain}
@@ -78,10 +78,11 @@ module _ (H n : ℕ) (σ : Assignment) where
       by false e = unfold due in (omega arith)
 
   -- what a contradiction takes from a literal was live where that literal is false
-  pub raw-takes : (l : Literal) (v w : ℕ) (b d : Branch) → In n l → Takes l v w b d → raw H n σ d + due (holds σ l) w ≡ raw H n σ b + due (holds σ l) v
+  pub raw-takes : (l : Literal) (v w : ℕ) (b d : Branch) → In n l → Takes l v w b d →
+      raw H n σ d + due (holds σ l) w ≡ raw H n σ b + due (holds σ l) v
   unfolding raw units
   raw-takes l v w b d h t =
-      by (holds σ l) (rw (opposite-holds σ l) at (litSum-pair n (falsely d) (falsely b) l h (λ k u. ap (due (not (holds σ k))) (elsewhere k (t .elsewhere k u)))))
+      by (holds σ l) (rw (opposite-holds σ l) at (litSum-pair n (falsely d) (falsely b) l h elsewhere))
     where
       falsely : Branch → Literal → ℕ
       falsely e k = due (not (holds σ k)) (unitToll H e k)
@@ -89,18 +90,20 @@ module _ (H n : ℕ) (σ : Assignment) where
       mark-toll : (k : Literal) → due (d .marked k) H ≡ due (b .marked k) H
       mark-toll k = ap (λ m. due (m k) H) (t .marked)
 
-      elsewhere : (k : Literal) → d .weight k ≡ b .weight k → unitToll H d k ≡ unitToll H b k
-      elsewhere k e = unfold unitToll in (omega (arith, mark-toll k))
-
       taken : (k : Literal) (u : ℕ) → d .weight k + u ≡ b .weight k → unitToll H d k + u ≡ unitToll H b k
       taken k u e = unfold unitToll in (omega (arith, mark-toll k))
+
+      elsewhere : (k : Literal) → (variableOf k ≡ variableOf l → ⊥) → falsely d k ≡ falsely b k
+      elsewhere k u = let e = t .elsewhere k u in ap (due (not (holds σ k))) (omega (arith, taken k 0 (omega arith)))
 
       by : (p : Bool) → litSum n (falsely d) + (due (not p) (unitToll H b l) + due (not (not p)) (unitToll H b (opposite l))) ≡
           litSum n (falsely b) + (due (not p) (unitToll H d l) + due (not (not p)) (unitToll H d (opposite l))) →
           d .booked + due (d .dead) H + litSum n (falsely d) + bill H σ (d .rules) + due p w ≡
           b .booked + due (b .dead) H + litSum n (falsely b) + bill H σ (b .rules) + due p v
-      by true e = unfold due in (omega (arith, t .booked, ap (λ z. due z H) (t .dead), ap (bill H σ) (t .rules), taken (opposite l) w (t .other)))
-      by false e = unfold due in (omega (arith, t .booked, ap (λ z. due z H) (t .dead), ap (bill H σ) (t .rules), taken l v (t .own)))
+      by true e =
+          unfold due in (omega (arith, t .booked, ap (λ z. due z H) (t .dead), ap (bill H σ) (t .rules), taken (opposite l) w (t .other)))
+      by false e =
+          unfold due in (omega (arith, t .booked, ap (λ z. due z H) (t .dead), ap (bill H σ) (t .rules), taken l v (t .own)))
 
   -- a hard mark that is not met comes to H
   pub raw-marked : (l : Literal) (b : Branch) → In n l → b .marked l ≡ true → due (not (holds σ l)) H ≤ raw H n σ b
@@ -151,7 +154,8 @@ module _ (H n : ℕ) (σ : Assignment) where
   adds-unit hard l b h = adds-mark l b h
   adds-unit (soft w) l b h = by (not (holds σ l)) (raw-set l (b .weight l + w) b h)
     where
-      by : (t : Bool) → raw H n σ (setWeight l (b .weight l + w) b) + due t (b .weight l) ≡ raw H n σ b + due t (b .weight l + w) →
+      by : (t : Bool) →
+          raw H n σ (setWeight l (b .weight l + w) b) + due t (b .weight l) ≡ raw H n σ b + due t (b .weight l + w) →
           worth H n σ (setWeight l (b .weight l + w) b) ≡ min H (raw H n σ b + due t w)
       by true e = unfold due in (omega arith)
       by false e = unfold due in (omega arith)

@@ -55,13 +55,16 @@ module _ (I : Problem) (k : Claim) (room : ℕ) where
   pub record Kept (Inv : ℕ → ℕ → List Branch → Type 0) (P : ℕ → List Branch → Draft → Type 0) : Type 0 where
     pub end : (fuel at : ℕ) → Inv fuel at [] → P at [] (wrote [])
     pub dry : (at : ℕ) (b : Branch) (bs : List Branch) → Inv 0 at (b ∷ bs) → P at (b ∷ bs) (noRoom at)
-    pub full : (fuel at : ℕ) (b : Branch) (bs : List Branch) (m : Move) → Inv (suc fuel) at (b ∷ bs) → Does b m → room < at + size (m .chosen) →
+    pub full : (fuel at : ℕ) (b : Branch) (bs : List Branch) (m : Move) → Inv (suc fuel) at (b ∷ bs) → Does b m →
+        room < at + size (m .chosen) →
         P at (b ∷ bs) (noRoom at)
     pub halt : (fuel at : ℕ) (b : Branch) (bs : List Branch) → Inv (suc fuel) at (b ∷ bs) → first I k (candidates I b) b ≡ none →
         P at (b ∷ bs) (stuck b)
-    pub next : (fuel at : ℕ) (b : Branch) (bs : List Branch) (m : Move) → Inv (suc fuel) at (b ∷ bs) → Does b m → at + size (m .chosen) ≤ room →
+    pub next : (fuel at : ℕ) (b : Branch) (bs : List Branch) (m : Move) → Inv (suc fuel) at (b ∷ bs) → Does b m →
+        at + size (m .chosen) ≤ room →
         Inv fuel (at + size (m .chosen)) (m .places ++ bs)
-    pub more : (fuel at : ℕ) (b : Branch) (bs : List Branch) (m : Move) → Inv (suc fuel) at (b ∷ bs) → Does b m → at + size (m .chosen) ≤ room →
+    pub more : (fuel at : ℕ) (b : Branch) (bs : List Branch) (m : Move) → Inv (suc fuel) at (b ∷ bs) → Does b m →
+        at + size (m .chosen) ≤ room →
         (w : Draft) → P (at + size (m .chosen)) (m .places ++ bs) w → P at (b ∷ bs) (also (m .chosen) w)
 
   pub write-kept : (Inv : ℕ → ℕ → List Branch → Type 0) (P : ℕ → List Branch → Draft → Type 0) → Kept Inv P →
@@ -102,7 +105,8 @@ module _ (I : Problem) (k : Claim) (room : ℕ) where
   pub record WroteKept (Inv : List Branch → Type 0) (P : List Branch → List Record → Type 0) : Type 0 where
     pub end : P [] []
     pub next : (b : Branch) (bs : List Branch) (m : Move) → Inv (b ∷ bs) → Chosen I k b m → Inv (m .places ++ bs)
-    pub more : (b : Branch) (bs : List Branch) (m : Move) → Inv (b ∷ bs) → Chosen I k b m → (rs : List Record) → P (m .places ++ bs) rs →
+    pub more : (b : Branch) (bs : List Branch) (m : Move) → Inv (b ∷ bs) → Chosen I k b m → (rs : List Record) →
+        P (m .places ++ bs) rs →
         P (b ∷ bs) (m .chosen ∷ rs)
 
   abbrev OnWrote : (List Record → Type 0) → Draft → Type 0
@@ -122,7 +126,8 @@ module _ (I : Problem) (k : Claim) (room : ℕ) where
         more = λ fuel at b bs m h d l. one-more b bs m h (d .move);
       }) fuel at bs h)
     where
-      one-more : (b : Branch) (bs : List Branch) (m : Move) → Inv (b ∷ bs) → Chosen I k b m → (w : Draft) → OnWrote (P (m .places ++ bs)) w →
+      one-more : (b : Branch) (bs : List Branch) (m : Move) → Inv (b ∷ bs) → Chosen I k b m → (w : Draft) →
+          OnWrote (P (m .places ++ bs)) w →
           OnWrote (P (b ∷ bs)) (also (m .chosen) w)
       one-more b bs m h c (wrote rs) p = unfold also in (K .more b bs m h c rs p)
       one-more b bs m h c (noRoom at) p = unfold also in tt
@@ -162,7 +167,8 @@ module _ (I : Problem) (k : Claim) (room : ℕ) where
       one-more at r (stuck b) h = unfold also in tt
 
   -- ---- Fuel never decides: with more than the bytes left Write does the same.
-  pub fuel-enough : (f g at : ℕ) (bs : List Branch) → at ≤ room → room < at + f → room < at + g → writeFrom I k f room at bs ≡ writeFrom I k g room at bs
+  pub fuel-enough : (f g at : ℕ) (bs : List Branch) → at ≤ room → room < at + f → room < at + g →
+      writeFrom I k f room at bs ≡ writeFrom I k g room at bs
   fuel-enough f g at bs l u v = write-kept (λ f at bs. (at ≤ room) × (room < at + f)) Same (record {
     end = λ f at h. none-open at;
     dry = λ at b bs h. absurd (omega arith);
@@ -179,15 +185,20 @@ module _ (I : Problem) (k : Claim) (room : ℕ) where
       none-open at zero v = unfold writeFrom in refl
       none-open at (suc g) v = unfold writeFrom in refl
 
-      no-room : (at : ℕ) (b : Branch) (bs : List Branch) (m : Move) → at ≤ room → Does b m → room < at + size (m .chosen) → Same at (b ∷ bs) (noRoom at)
+      no-room : (at : ℕ) (b : Branch) (bs : List Branch) (m : Move) → at ≤ room → Does b m → room < at + size (m .chosen) →
+          Same at (b ∷ bs) (noRoom at)
       no-room at b bs m h d l zero v = absurd (omega arith)
       no-room at b bs m h d l (suc g) v = unfold writeFrom in (rw (d .least, lt-leb (at + size (m .chosen)) room l, writeFrom))
 
-      halted : (at : ℕ) (b : Branch) (bs : List Branch) → at ≤ room → first I k (candidates I b) b ≡ none → Same at (b ∷ bs) (stuck b)
+      halted : (at : ℕ) (b : Branch) (bs : List Branch) → at ≤ room → first I k (candidates I b) b ≡ none →
+          Same at (b ∷ bs) (stuck b)
       halted at b bs h e zero v = absurd (omega arith)
       halted at b bs h e (suc g) v = unfold writeFrom in (rw (e, writeFrom))
 
       one-more : (at : ℕ) (b : Branch) (bs : List Branch) (m : Move) → at ≤ room → Does b m → at + size (m .chosen) ≤ room →
           (w : Draft) → Same (at + size (m .chosen)) (m .places ++ bs) w → Same at (b ∷ bs) (also (m .chosen) w)
       one-more at b bs m h d l w q zero v = absurd (omega arith)
-      one-more at b bs m h d l w q (suc g) v = unfold writeFrom in (rw (d .least, le-leb (at + size (m .chosen)) room l, writeFrom) (ap (also (m .chosen)) (q g (omega (arith, size-some (m .chosen))))))
+      one-more at b bs m h d l w q (suc g) v =
+          unfold writeFrom in (
+          rw (d .least, le-leb (at + size (m .chosen)) room l, writeFrom)
+          (ap (also (m .chosen)) (q g (omega (arith, size-some (m .chosen))))))
