@@ -84,7 +84,7 @@ spend-some l b d q = by (ltb 0 (b .weight l)) refl
     by true e = (
       ltb-true 0 (b .weight l) e,
       subst (Takes l (b .weight l) 0 b) (Option·some-injective _ _ (rw (e, spend) at q)) (record {
-        booked = unfold setWeight in refl;
+        booked = unfold setWeight in (omega arith);
         own = simp set-weights (omega arith);
         other = rw (set-other l 0 b (opposite l) (opposite-apart l)) (omega arith);
         elsewhere = λ k u. set-other l 0 b k (λ q. u (ap variableOf q));
@@ -112,7 +112,7 @@ cancel-some x s b d l m q = by (ltb 0 s) refl
     by true e = (
       ltb-true 0 s e,
       subst (Takes (pos x) s s b) (Option·some-injective _ _ (rw (e, cancelBy) at q)) (record {
-        booked = unfold setWeight in refl;
+        booked = unfold setWeight in (omega arith);
         own = simp set-weights (omega arith);
         other = simp set-weights (omega arith);
         elsewhere = λ k u. set-other (pos x) _ _ k (λ q. u (ap variableOf q)) ∙ set-other (neg x) _ _ k (λ q. u (ap variableOf q));
@@ -131,27 +131,29 @@ cancel-none x s b q = by (ltb 0 s) refl
     by false e = omega (arith, tests)
 
 pub contradiction : (x : ℕ) (b : Branch) → Contradiction x b (contradict x b)
-unfolding contradict contradictBy variableOf opposite
+unfolding contradict contradictBy variableOf opposite kill
 contradiction x b = by (b .marked (pos x)) refl (b .marked (neg x)) refl
   where
-    spends : (l : Literal) → variableOf l ≡ x → b .marked (opposite l) ≡ true → b .marked l ≡ false → (o : Option Branch) →
-        spend l b ≡ o → Contradiction x b o
-    spends l v m u none q = noWeight l v m u (spend-none l b q)
-    spends l v m u (some d) q = let h = spend-some l b d q in oneHard l v m (h .0) (h .1)
+    dies : b .marked (pos x) ≡ true → b .marked (neg x) ≡ true → (o : Option Branch) → contradictBy true true x b ≡ o → Contradiction x b o
+    dies u v none q = absurd (Option·some-ne-none _ q)
+    dies u v (some d) q =
+        bothHard u v (subst (Dies b) (Option·some-injective _ _ q) (record { dead = refl; weight = refl; marked = refl; rules = refl; booked = refl }))
 
-    cancels : (s : ℕ) → s ≡ min (b .weight (pos x)) (b .weight (neg x)) → b .marked (pos x) ≡ false → b .marked (neg x) ≡ false →
-        (o : Option Branch) → cancelBy x s b ≡ o → Contradiction x b o
-    cancels s e u v none q = noPair u v (omega (arith, cancel-none x s b q))
-    cancels s e u v (some d) q = let h = cancel-some x s b d (omega arith) (omega arith) q in bothSoft s e (h .0) (h .1)
+    spends : (o : Option Branch) (l : Literal) → spend l b ≡ o → variableOf l ≡ x → b .marked (opposite l) ≡ true → b .marked l ≡ false →
+        Contradiction x b o
+    spends none l q v m u = noWeight l v m u (spend-none l b q)
+    spends (some d) l q v m u = let h = spend-some l b d q in oneHard l v m (h .0) (h .1)
+
+    cancels : (o : Option Branch) (s : ℕ) → cancelBy x s b ≡ o → s ≡ min (b .weight (pos x)) (b .weight (neg x)) →
+        b .marked (pos x) ≡ false → b .marked (neg x) ≡ false → Contradiction x b o
+    cancels none s q e u v = noPair u v (omega (arith, cancel-none x s b q))
+    cancels (some d) s q e u v = let h = cancel-some x s b d (omega arith) (omega arith) q in bothSoft s e (h .0) (h .1)
 
     by : (p : Bool) → b .marked (pos x) ≡ p → (q : Bool) → b .marked (neg x) ≡ q → Contradiction x b (contradictBy p q x b)
-    by true u true v = bothHard u v dies
-      where
-        dies : Dies b (kill b)
-        dies = unfold kill in (record { dead = refl; weight = refl; marked = refl; rules = refl; booked = refl })
-    by true u false v = spends (neg x) refl u v _ refl
-    by false u true v = spends (pos x) refl v u _ refl
-    by false u false v = cancels _ refl u v _ refl
+    by true u true v = dies u v _ refl
+    by true u false v = spends _ _ refl refl u v
+    by false u true v = spends _ _ refl refl v u
+    by false u false v = cancels _ _ refl refl u v
 
 -- ---- an extension of clause c, of number i: 01's case, and the three where the clause can't be extended
 abbrev pub single : Literal → Body

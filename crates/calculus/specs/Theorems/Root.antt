@@ -21,14 +21,12 @@ Covered n cs = Every (λ c. InBody n (c .body)) cs
 module _ (H n : ℕ) (σ : Assignment) where
   adds-enter : (w : Weight) (p : Body) (b : Branch) → InBody n p → Adds H n σ (due (broken σ p) (toll H w)) b (enter w p b)
   unfolding enter
-  adds-enter w p b h = by (numbered p)
+  adds-enter w p b h = by (numbered p) refl (adds-gain H n σ w p b h)
     where
-      by : (t : Bool) →
-          Adds H n σ (due (broken σ p) (toll H w)) b
-          (elim t as (λ _. Branch) [ true ↦ gain w p b | false ↦ keep (soft 0) p (gain w p b) ])
-      by true = adds-gain H n σ w p b h
-      by false =
-          unfold toll in (omega (arith, raw-keep H n σ (soft 0) p (gain w p b), due-zero (broken σ p), adds-gain H n σ w p b h))
+      by : (t : Bool) → numbered p ≡ t → Adds H n σ (due (broken σ p) (toll H w)) b (gain w p b) →
+          Adds H n σ (due (broken σ p) (toll H w)) b (enter w p b)
+      by true e g = rw (e, enter) g
+      by false e g = rw (e, enter) (unfold toll in (omega (arith, raw-keep H n σ (soft 0) p (gain w p b), due-zero (broken σ p))))
 
   rootFrom-worth : (b : Branch) (cs : List Clause) → Covered n cs →
       worth H n σ (rootFrom b cs) ≡ min H (raw H n σ b + bill H σ cs)
@@ -83,11 +81,11 @@ module _ (H n : ℕ) (σ : Assignment) where
 module _ (n : ℕ) where
   sane-enter : (w : Weight) (p : Body) (b : Branch) → InBody n p → Sane n b → Sane n (enter w p b)
   unfolding enter
-  sane-enter w p b h s = by (numbered p)
+  sane-enter w p b h s = by (numbered p) refl (sane-gain n w p b h s)
     where
-      by : (t : Bool) → Sane n (elim t as (λ _. Branch) [ true ↦ gain w p b | false ↦ keep (soft 0) p (gain w p b) ])
-      by true = sane-gain n w p b h s
-      by false = sane-keep n (soft 0) p (gain w p b) h (λ q. refl) (sane-gain n w p b h s)
+      by : (t : Bool) → numbered p ≡ t → Sane n (gain w p b) → Sane n (enter w p b)
+      by true e g = rw (e, enter) g
+      by false e g = rw (e, enter) (sane-keep n (soft 0) p (gain w p b) h (λ q. refl) g)
 
   sane-from : (b : Branch) (cs : List Clause) → Covered n cs → Sane n b → Sane n (rootFrom b cs)
   unfolding rootFrom
