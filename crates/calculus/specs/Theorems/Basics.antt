@@ -33,6 +33,12 @@ unfoldable pub due : Bool → ℕ → ℕ
 due true v = v
 due false v = 0
 
+pub due-true : (t : Bool) (v : ℕ) → t ≡ true → due t v ≡ v
+due-true t v e = rw e (unfold due in refl)
+
+pub due-false : (t : Bool) (v : ℕ) → t ≡ false → due t v ≡ 0
+due-false t v e = rw e (unfold due in refl)
+
 pub due-zero : (t : Bool) → due t 0 ≡ 0
 unfolding due
 due-zero true = refl

@@ -30,7 +30,7 @@ use Rattle.calculus.specs.Branch.{
   root,
   spent,
 }
-use Rattle.calculus.specs.Theorems.Basics.{due, every-among}
+use Rattle.calculus.specs.Theorems.Basics.{due, due-true, due-false, every-among}
 use Rattle.calculus.specs.Theorems.Sum.{fold}
 use Rattle.calculus.specs.Theorems.Literals.{litSum, litSum-zero, litSum-pair, litSum-ge, litSum-weight, litSum-mark}
 use Rattle.calculus.specs.Theorems.Fair.{Sane, literals-in}
@@ -132,17 +132,11 @@ module _ (n : ℕ) where
         arith,
         ap (λ f. litSum n (λ k. positive (f k))) (t .weight),
         ap remaining (t .rules),
-        none (d .dead) (t .dead),
-        all (b .dead) q,
+        due-false (not (d .dead)) (litSum n (λ k. due (d .marked k) 1)) (ap not (t .dead)),
+        due-true (not (b .dead)) (litSum n (λ k. due (b .marked k) 1)) (ap not q),
         one,
       )
     where
-      none : (z : Bool) → z ≡ true → due (not z) (litSum n (λ k. due (d .marked k) 1)) ≡ 0
-      none z e = rw e (unfold due in refl)
-
-      all : (z : Bool) → z ≡ false → due (not z) (litSum n (λ k. due (b .marked k) 1)) ≡ litSum n (λ k. due (b .marked k) 1)
-      all z e = rw e (unfold due in refl)
-
       one : 1 ≤ litSum n (λ k. due (b .marked k) 1)
       one = unfold due in (rw m at (litSum-ge n (λ k. due (b .marked k) 1) l h))
 

@@ -11,7 +11,7 @@ use Rattle.instance.specs.Clause.{Literal, Weight, hard, soft, Clause, clauseAt
 use Rattle.instance.specs.Meaning.{Assignment, holds, falsified, broken, feasible, priced, cost}
 use Rattle.instance.specs.Within.{Every, In}
 use Rattle.calculus.specs.Branch.{Branch, setWeight, mark, withRules, putAt, put, unitOf}
-use Rattle.calculus.specs.Theorems.Basics.{clash, due, every-among, every-weaken}
+use Rattle.calculus.specs.Theorems.Basics.{clash, due, due-false, every-among, every-weaken}
 use Rattle.calculus.specs.Theorems.Sum.{fold, sumOf, fold-put}
 use Rattle.calculus.specs.Theorems.Literals.{litSum, litSum-same, litSum-weight}
 use Rattle.calculus.specs.Theorems.Cases.{Extension, opens, branches-each}
@@ -30,7 +30,7 @@ reckoned n σ b = b .booked + live n σ b
 abbrev pub MeetsMarks : ℕ → Assignment → Branch → Type 0
 MeetsMarks n σ b = (l : Literal) → In n l → b .marked l ≡ true → holds σ l ≡ true
 
--- ---- to such an assignment a branch is worth what is reckoned, under every cap
+-- ---- an assignment that meets the branch's marks and its hard clauses: the branch is worth what is reckoned, under every cap
 pub record Admits (n : ℕ) (σ : Assignment) (b : Branch) : Type 0 where
   pub alive : b .dead ≡ false
   pub marks : MeetsMarks n σ b
@@ -42,14 +42,11 @@ module _ (n : ℕ) (σ : Assignment) where
   raw-reckoned H b a =
       omega (
         arith,
-        lives (b .dead) (a .alive),
+        due-false (b .dead) H (a .alive),
         bill-cost H n σ (b .rules) (a .hards),
         litSum-same n _ _ (λ k h. unit (holds σ k) (b .marked k) (b .weight k) (a .marks k h)),
       )
     where
-      lives : (t : Bool) → t ≡ false → due t H ≡ 0
-      lives t e = rw e (unfold due in refl)
-
       unit : (t m : Bool) (w : ℕ) → (m ≡ true → t ≡ true) → due (not t) (w + due m H) ≡ due (not t) w
       unit true m w h = unfold due in refl
       unit false true w h = clash (h refl) refl

@@ -7,7 +7,7 @@ use native.Mathlib.Omega.{arith}
 use Rattle.instance.specs.Clause.{Weight, hard, soft, Body, Clause}
 use Rattle.instance.specs.Meaning.{Assignment, holds, broken, fine, feasible, priced, cost}
 use Rattle.instance.specs.Within.{Every, InBody}
-use Rattle.calculus.specs.Branch.{Branch, blank, keep, gain, numbered, enter, rootFrom, root}
+use Rattle.calculus.specs.Branch.{Branch, blank, gain, numbered, enter, rootFrom, root}
 use Rattle.calculus.specs.Theorems.Basics.{clash, due, due-zero}
 use Rattle.calculus.specs.Theorems.Sum.{fold}
 use Rattle.calculus.specs.Theorems.Literals.{litSum-zero}

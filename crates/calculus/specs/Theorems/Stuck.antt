@@ -14,7 +14,7 @@ use Rattle.calculus.specs.declared.Record.{Record}
 use Rattle.calculus.specs.Branch.{Branch, numbered, spent, root}
 use Rattle.calculus.specs.Claims.{Below, Refutes}
 use Rattle.calculus.specs.Writing.{candidates, first, Draft, wrote, noRoom, stuck, also, writeFrom, found}
-use Rattle.calculus.specs.Theorems.Basics.{tests, or-false, or-second, clash, due, due-zero, every-append, every-among, every-all, every-at, every-of}
+use Rattle.calculus.specs.Theorems.Basics.{tests, or-false, or-second, clash, due, due-false, due-zero, every-append, every-among, every-all, every-at, every-of}
 use Rattle.calculus.specs.Theorems.Sum.{sum-zero}
 use Rattle.calculus.specs.Theorems.Literals.{litSum-zero}
 use Rattle.calculus.specs.Theorems.Tautology.{tautology-holds}
@@ -102,10 +102,7 @@ module _ (H : ℕ) (I : Problem) (k : Claim) (b : Branch) (s : Stuck I k b) (san
 
   found-raw : raw H n (found b) b ≡ b .booked
   unfolding raw
-  found-raw = omega (arith, found-units, found-bill, lives (b .dead) (s .alive))
-    where
-      lives : (t : Bool) → t ≡ false → due t H ≡ 0
-      lives t e = rw e (unfold due in refl)
+  found-raw = omega (arith, found-units, found-bill, due-false (b .dead) H (s .alive))
 
 -- ---- along the records a branch stays worth what the clauses come to, at least
 module _ (I : Problem) (k : Claim) where

@@ -1,4 +1,4 @@
--- One induction over the walk serves every fact about it.
+-- One induction over the walk serves every fact about it: here, that it counts the records.
 use Prim.Native.Nat.{ℕ, suc, _+_}
 use mathlib.Core.List.{List, [], _∷_, _++_}
 use mathlib.Core.Path.{_≡_, refl, subst}

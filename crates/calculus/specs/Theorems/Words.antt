@@ -6,8 +6,8 @@ use mathlib.Core.Option.{some}
 use mathlib.Core.Path.{_≡_, refl, ap, subst, _∙_}
 use native.Mathlib.Omega.{arith}
 use Rattle.instance.specs.Clause.{Literal, soft, Clause, Problem, clauseAt}
-use Rattle.instance.specs.Meaning.{Assignment, holds, fine, feasible, cost}
-use Rattle.instance.specs.Within.{Every, In, Fits}
+use Rattle.instance.specs.Meaning.{Assignment, fine, feasible, cost}
+use Rattle.instance.specs.Within.{Every, Fits}
 use Rattle.instance.specs.declared.answers.Claim.{Claim}
 use Rattle.calculus.specs.declared.Record.{Record}
 use Rattle.calculus.specs.Branch.{Branch, withRules, putAt, put, root, extend, contradict}
@@ -29,6 +29,7 @@ pub record Meets (I : Problem) (σ : Assignment) (b : Branch) : Type 0 where
   pub hards : feasible σ (I .clauses) ≡ true
   pub marks : MeetsMarks (I .variables) σ b
 
+-- kept in a branch whose marks the assignment meets too, and lowered in none, whether it meets their marks or not
 pub record Preserved (I : Problem) (σ : Assignment) (b : Branch) (bs : List Branch) : Type 0 where
   pub kept : (d : Branch) × Among d bs × Meets I σ d × (reckoned (I .variables) σ d ≡ reckoned (I .variables) σ b)
   pub unlowered : Every (λ d. reckoned (I .variables) σ b ≤ reckoned (I .variables) σ d) bs
@@ -58,13 +59,16 @@ module _ (I : Problem) (fits : Fits I) (k : Claim) (σ : Assignment) where
       let t = kept-in-one n σ b (d ∷ []) a (λ H. contradict-fair H n x b d lo hi s c) in
       subst (Kept n σ b) (List·Memᴰ·eq-of-singleton (t .1)) (t .2)
 
-  -- what a record leaves of an assignment that meets the marks
+  -- an assignment that meets the marks after a record admits the branch, if it did so before
   stepped-admits : (r : Record) (b : Branch) (new : List Branch) → Sane n b → (MeetsMarks n σ b → Admits n σ b) →
       Stepped I k b r new →
       Every (λ d. MeetsMarks n σ d → Admits n σ d) new
   stepped-admits r b new s a (closed e) = tt
   stepped-admits r b new s a (contradicted {b′ = d} x q lo hi c) =
-      ((λ m. contradiction-admits x b d lo hi s c (a (λ l i q. m l i (ap (λ f. f l) ((contradiction-leaves x b d c) .marked) ∙ q))) .0), tt)
+      ((λ m. contradiction-admits x b d lo hi s c (a (λ l i q. m l i (same l ∙ q))) .0), tt)
+    where
+      same : (l : Literal) → d .marked l ≡ b .marked l
+      same l = ap (λ f. f l) ((contradiction-leaves x b d c) .marked)
   stepped-admits r b new s a (extended i c q e x) = every-weaken one new (extension-leaves b i c new x)
     where
       one : (d : Branch) → Gained (put i (soft 0) b) d → MeetsMarks n σ d → Admits n σ d

@@ -25,17 +25,20 @@ pub record Chosen (I : Problem) (k : Claim) (b : Branch) (m : Move) : Type 0 whe
   pub goes : step I k (m .chosen) b ≡ go (m .places)
   pub did : Stepped I k b (m .chosen) (m .places)
 
-abbrev OnMove : (Move → Type 0) → Option Move → Type 0
+abbrev pub OnMove : (Move → Type 0) → Option Move → Type 0
 OnMove P none = Unit {0}
 OnMove P (some m) = P m
 
-first-chosen : (I : Problem) (k : Claim) (b : Branch) (rs : List Record) → OnMove (Chosen I k b) (first I k rs b)
+pub first-chosen : (I : Problem) (k : Claim) (b : Branch) (rs : List Record) → OnMove (Chosen I k b) (first I k rs b)
 unfolding first
 first-chosen I k b [] = tt
 first-chosen I k b (r ∷ rs) = test (step I k r b) refl (stepped I k b r) (first-chosen I k b rs)
   where
     test : (s : Step) → step I k r b ≡ s → OnGo (Stepped I k b r) s → OnMove (Chosen I k b) (first I k rs b) →
-        OnMove (Chosen I k b) (elim s as (λ _. Option Move) [ go new ↦ some (record { chosen = r; places = new }) | stop e ↦ first I k rs b ])
+        OnMove (Chosen I k b) (elim s as (λ _. Option Move) [
+          | go new ↦ some (record { chosen = r; places = new })
+          | stop e ↦ first I k rs b
+        ])
     test (stop e) q d h = h
     test (go new) q d h = record { goes = q; did = d }
 
@@ -45,13 +48,15 @@ size-some (E i) = omega arith
 size-some (C x) = omega arith
 size-some Q = omega arith
 
--- ---- the induction. Inv holds of the fuel, the bytes written and the open branches; P of the latter two and what comes of them.
 module _ (I : Problem) (k : Claim) (room : ℕ) where
+  -- ---- the induction
   -- m is what Write does on b
   pub record Does (b : Branch) (m : Move) : Type 0 where
     pub least : first I k (candidates I b) b ≡ some m
     pub move : Chosen I k b m
 
+  -- Inv holds of the fuel, the bytes written and the open branches; P of the bytes, the branches and what comes of them: none
+  -- open, no fuel, no room for the next record, nothing allowed, or a record written.
   pub record Kept (Inv : ℕ → ℕ → List Branch → Type 0) (P : ℕ → List Branch → Draft → Type 0) : Type 0 where
     pub end : (fuel at : ℕ) → Inv fuel at [] → P at [] (wrote [])
     pub dry : (at : ℕ) (b : Branch) (bs : List Branch) → Inv 0 at (b ∷ bs) → P at (b ∷ bs) (noRoom at)
