@@ -1,4 +1,4 @@
--- Only the variables 1 to n count: for the bytes of an assignment, and for those that Write finds.
+-- "An assignment is n bytes": only the variables 1 to n count, for the bytes of an assignment and for those that Write finds.
 use Prim.Native.Nat.{ℕ, _≤_}
 use mathlib.Core.Bool.{not}
 use mathlib.Core.List.{List, [], _∷_}

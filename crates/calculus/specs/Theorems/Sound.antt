@@ -98,7 +98,8 @@ module _ (I : Problem) where
             subst (Shown (root (I .clauses) ∷ [])) e (walk-shown is at m (root (I .clauses) ∷ []) (sane-root n (I .clauses) fits, tt)) σ,
           )
 
-  -- Demand 2: an accepted derivation's claim is true.
+  -- Demand 2: what an accepted derivation claims is true, "the minimum is this number" (no assignment costs less) or "no
+  -- assignment meets the hard clauses".
   pub sound : Fits I → (k : Claim) (is : List Item) (at m : ℕ) (c : Claim) (a : ℕ) →
       walk I k is at m (root (I .clauses) ∷ []) ≡ Accepted c a → True I k
   sound fits (Minimum v) is at m c a e =

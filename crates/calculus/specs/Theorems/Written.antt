@@ -138,7 +138,7 @@ module _ (I : Problem) (k : Claim) (room : ℕ) where
       one-more b bs m h c (noRoom at) p = unfold also in tt
       one-more b bs m h c (stuck d) p = unfold also in tt
 
-  -- ---- What Write has written is accepted, whatever the claim, with exactly its count.
+  -- ---- "Check must accept it": what Write has written is accepted, whatever the claim, with exactly its count.
   pub write-accepted : (fuel at : ℕ) (bs : List Branch) (rs : List Record) → writeFrom I k fuel room at bs ≡ wrote rs →
       (p n : ℕ) → walk I k (map whole rs) p n bs ≡ Accepted k (n + length rs)
   write-accepted fuel at bs rs e = wrote-kept (λ bs. Unit {0}) Taken (record {
@@ -150,7 +150,7 @@ module _ (I : Problem) (k : Claim) (room : ℕ) where
       Taken : List Branch → List Record → Type 0
       Taken bs rs = (p n : ℕ) → walk I k (map whole rs) p n bs ≡ Accepted k (n + length rs)
 
-  -- ---- What is written fits the room, and 21 tells no more bytes than the room has.
+  -- ---- What is written fits the room, and the place of 21, "bytes written so far", is within it.
   abbrev pub Roomed : ℕ → Draft → Type 0
   Roomed at (wrote rs) = at + bytesOf rs ≤ room
   Roomed at (noRoom a) = (at ≤ a) × (a ≤ room)
@@ -171,7 +171,7 @@ module _ (I : Problem) (k : Claim) (room : ℕ) where
       one-more at r (noRoom a) h = unfold also in (omega arith)
       one-more at r (stuck b) h = unfold also in tt
 
-  -- ---- Fuel never decides: with more than the bytes left Write does the same.
+  -- ---- "A fuel of more than the bytes left never runs out": Write does the same with any other.
   pub fuel-enough : (f g at : ℕ) (bs : List Branch) → at ≤ room → room < at + f → room < at + g →
       writeFrom I k f room at bs ≡ writeFrom I k g room at bs
   fuel-enough f g at bs l u v = write-kept (λ f at bs. (at ≤ room) × (room < at + f)) Same (record {
