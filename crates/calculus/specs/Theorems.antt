@@ -1,6 +1,7 @@
 pub mod Basics
 pub mod Sum
 pub mod Literals
+pub mod Cases
 pub mod Steps
 pub mod Worth
 pub mod Fair
@@ -10,6 +11,8 @@ pub mod Root
 pub mod Walked
 pub mod Sound
 pub mod Written
+pub mod Choice
+pub mod Tautology
 pub mod Stuck
 pub mod Unchanged
 pub mod Numbers
@@ -19,5 +22,6 @@ pub mod Length
 pub mod Paths
 pub mod Mass
 pub mod Agree
+pub mod Reckoned
 pub mod Words
 pub mod Broken

@@ -1,6 +1,6 @@
 -- What Write does after the claim (01, "Write").
 use Prim.Native.Nat.{ℕ, zero, suc, _+_}
-use mathlib.Core.Bool.{Bool, true, false, _||_}
+use mathlib.Core.Bool.{true, false, _||_}
 use mathlib.Core.List.{List, [], _∷_, _++_, map}
 use mathlib.Core.Option.{Option, some, none}
 use lib.Dec.{leb, ltb}
@@ -9,7 +9,7 @@ use Rattle.instance.specs.Clause.{pos, Problem}
 use Rattle.instance.specs.Meaning.{Assignment}
 use Rattle.instance.specs.declared.answers.Claim.{Claim}
 use Rattle.calculus.specs.Branch.{Branch}
-use Rattle.calculus.specs.Derivation.{Step, stop, go, size, step}
+use Rattle.calculus.specs.Derivation.{stop, go, size, step}
 use Rattle.calculus.specs.declared.Record.{Record}
 use Rattle.calculus.specs.declared.Record.the-variants.{E, C, Q}
 
@@ -44,7 +44,7 @@ also r (noRoom at) = noRoom at
 also r (stuck b) = stuck b
 
 -- The records for the open branches, with `at` bytes written of `room`. Each record takes at least a byte, so a fuel of more
--- than the bytes left never runs out: a record that finds no fuel finds no room either.
+-- than the bytes left never runs out, and how much more does not matter (Theorems/Written `fuel-enough`).
 unfoldable pub writeFrom : Problem → Claim → ℕ → ℕ → ℕ → List Branch → Draft
 writeFrom I k zero room at [] = wrote []
 writeFrom I k zero room at (b ∷ bs) = noRoom at

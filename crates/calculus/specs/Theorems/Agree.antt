@@ -1,6 +1,6 @@
--- Only the variables 1 to n count: for the bytes of an assignment, and for those that Write finds.
+-- "An assignment is n bytes": only the variables 1 to n count, for the bytes of an assignment and for those that Write finds.
 use Prim.Native.Nat.{ℕ, _≤_}
-use mathlib.Core.Bool.{not, _&&_}
+use mathlib.Core.Bool.{not}
 use mathlib.Core.List.{List, [], _∷_}
 use mathlib.Core.Path.{_≡_, refl, ap}
 use Rattle.instance.specs.Clause.{Literal, pos, neg, Weight, hard, soft, Body, clause, Clause, variableOf}

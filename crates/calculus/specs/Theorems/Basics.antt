@@ -1,11 +1,10 @@
 -- Small facts about tests and lists.
 use Prim.Native.Nat.{ℕ, zero, suc, _≤_}
-use mathlib.Core.Bool.{Bool, true, false, true≢false}
+use mathlib.Core.Bool.{Bool, true, false, _||_, true≢false}
 use mathlib.Core.List.{List, [], _∷_, _++_, List·Memᴰ as Among, List·Memᴰ·head, List·Memᴰ·tail}
-use mathlib.Core.Option.{Option, some, none, Option·some-injective, Option·none-ne-some}
+use mathlib.Core.Option.{some, Option·some-injective, Option·none-ne-some}
 use mathlib.Core.Path.{_≡_, refl, sym, subst, _∙_}
 use native.Mathlib.Omega.{arith}
-use lib.Dec.{leb, ltb}
 use lib.ListN.{length}
 use borrow.Author.Tests.{leb-true, leb-false, ltb-true, ltb-false}
 use Rattle.instance.specs.Clause.{Clause, clauseAt}
@@ -21,10 +20,24 @@ pub false-unless : (t : Bool) → (t ≡ true → ⊥) → t ≡ false
 false-unless true h = absurd (h refl)
 false-unless false h = refl
 
+pub or-false : (t u : Bool) → (t || u) ≡ false → (t ≡ false) × (u ≡ false)
+or-false true u e = clash refl e
+or-false false u e = (refl, e)
+
+pub or-second : (t u : Bool) → (t || u) ≡ true → t ≡ false → u ≡ true
+or-second true u e f = clash refl f
+or-second false u e f = e
+
 -- v where the test holds
 unfoldable pub due : Bool → ℕ → ℕ
 due true v = v
 due false v = 0
+
+pub due-true : (t : Bool) (v : ℕ) → t ≡ true → due t v ≡ v
+due-true t v e = rw e (unfold due in refl)
+
+pub due-false : (t : Bool) (v : ℕ) → t ≡ false → due t v ≡ 0
+due-false t v e = rw e (unfold due in refl)
 
 pub due-zero : (t : Bool) → due t 0 ≡ 0
 unfolding due
@@ -37,9 +50,9 @@ module _ {A : Type 0} where
   every-append P [] ys h k = k
   every-append P (x ∷ xs) ys h k = (h .0, every-append P xs ys (h .1) k)
 
-  pub every-split : (P : A → Type 0) (xs ys : List A) → Every P (xs ++ ys) → Every P xs × Every P ys
-  every-split P [] ys h = (tt, h)
-  every-split P (x ∷ xs) ys h = let r = every-split P xs ys (h .1) in ((h .0, r .0), r .1)
+  pub every-all : (P : A → Type 0) (xs : List A) → ((x : A) → Among x xs → P x) → Every P xs
+  every-all P [] h = tt
+  every-all P (x ∷ xs) h = (h x (List·Memᴰ·head refl), every-all P xs (λ y m. h y (List·Memᴰ·tail m)))
 
   pub every-among : (P : A → Type 0) {x : A} (xs : List A) → Every P xs → Among x xs → P x
   every-among P (y ∷ ys) h (List·Memᴰ·head e) = subst P (sym e) (h .0)

@@ -1,73 +1,56 @@
 -- A contradiction is fair.
-use Prim.Native.Nat.{ℕ, _+_, _-_, _≤_, min}
+use Prim.Native.Nat.{ℕ, _+_, _≤_}
 use mathlib.Core.Bool.{Bool, true, false, not}
-use mathlib.Core.List.{List, [], _∷_}
+use mathlib.Core.List.{[], _∷_}
 use mathlib.Core.Option.{some}
-use mathlib.Core.Path.{_≡_, refl}
+use mathlib.Core.Path.{_≡_, ap, sym, subst, _∙_}
 use native.Mathlib.Omega.{arith}
-use Rattle.instance.specs.Clause.{Literal, pos, neg, variableOf, same, opposite}
+use Rattle.instance.specs.Clause.{Literal, pos, neg, variableOf, opposite}
 use Rattle.instance.specs.Meaning.{Assignment, holds}
-use Rattle.instance.specs.Within.{In}
-use Rattle.calculus.specs.Branch.{Branch, setWeight, book, kill}
+use Rattle.instance.specs.Within.{Every, In}
+use Rattle.calculus.specs.Branch.{Branch}
 use Rattle.calculus.specs.Theorems.Basics.{due}
 use Rattle.calculus.specs.Theorems.Literals.{opposite-holds, opposite-in}
-use Rattle.calculus.specs.Theorems.Steps.{Contradiction, bothHard, oneHard, bothSoft, noWeight, noPair}
-use Rattle.calculus.specs.Theorems.Worth.{raw, worth, least, raw-book, raw-kill, raw-set, raw-marked}
-use Rattle.calculus.specs.Theorems.Fair.{Sane, Fair}
+use Rattle.calculus.specs.Theorems.Cases.{Dies, Takes, Contradiction, bothHard, oneHard, bothSoft}
+use Rattle.calculus.specs.Theorems.Worth.{raw, worth, least, raw-dead, raw-marked, raw-takes}
+use Rattle.calculus.specs.Theorems.Fair.{Whole, Sane, Fair}
 
 module _ (H n : ℕ) where
   -- both literals hard: no assignment meets both marks
-  both-level : (x : ℕ) (b : Branch) → In n (pos x) → b .marked (pos x) ≡ true → b .marked (neg x) ≡ true → (σ : Assignment) →
-      worth H n σ b ≡ worth H n σ (kill b)
-  both-level x b h p q σ = by (σ x) (unfold holds in (raw-marked H n σ (pos x) b h p)) (unfold holds in (raw-marked H n σ (neg x) b (unfold variableOf in h) q))
+  both-level : (x : ℕ) (b d : Branch) → In n (pos x) → b .marked (pos x) ≡ true → b .marked (neg x) ≡ true → Dies b d →
+      (σ : Assignment) →
+      worth H n σ b ≡ worth H n σ d
+  unfolding holds variableOf
+  both-level x b d h p q t σ = by (σ x) (raw-marked H n σ (pos x) b h p) (raw-marked H n σ (neg x) b h q)
     where
-      by : (t : Bool) → due (not t) H ≤ raw H n σ b → due (not (not t)) H ≤ raw H n σ b → worth H n σ b ≡ worth H n σ (kill b)
-      by true u v = unfold due in (omega (arith, raw-kill H n σ b))
-      by false u v = unfold due in (omega (arith, raw-kill H n σ b))
+      by : (t : Bool) → due (not t) H ≤ raw H n σ b → due (not (not t)) H ≤ raw H n σ b → worth H n σ b ≡ worth H n σ d
+      by true u v = unfold due in (omega (arith, raw-dead H n σ d (t .dead)))
+      by false u v = unfold due in (omega (arith, raw-dead H n σ d (t .dead)))
 
-  -- the opposite of l is hard: where l is true that mark is not met, where l is false its weight was live
-  one-level : (l : Literal) (b : Branch) → In n l → b .marked (opposite l) ≡ true → (σ : Assignment) →
-      worth H n σ b ≡ worth H n σ (book (b .weight l) (setWeight l 0 b))
-  one-level l b h m σ =
-      by (holds σ l) (raw-book H n σ (b .weight l) (setWeight l 0 b)) (raw-set H n σ l 0 b h)
+  -- one literal hard: where l is true that mark is not met, where it is false its weight was live
+  one-level : (l : Literal) (b d : Branch) → In n l → b .marked (opposite l) ≡ true → Takes l (b .weight l) 0 b d →
+      (σ : Assignment) → worth H n σ b ≡ worth H n σ d
+  one-level l b d h m t σ =
+      by (holds σ l) (raw-takes H n σ l (b .weight l) 0 b d h t)
       (rw (opposite-holds σ l) at (raw-marked H n σ (opposite l) b (opposite-in n l h) m))
-      (rw (opposite-holds σ l) at (raw-marked H n σ (opposite l) after (opposite-in n l h) (unfold book setWeight in m)))
+      (rw (opposite-holds σ l) at (raw-marked H n σ (opposite l) d (opposite-in n l h) (ap (λ f. f (opposite l)) (t .marked) ∙ m)))
     where
-      after : Branch
-      after = book (b .weight l) (setWeight l 0 b)
+      by : (p : Bool) → raw H n σ d + due p 0 ≡ raw H n σ b + due p (b .weight l) →
+          due (not (not p)) H ≤ raw H n σ b → due (not (not p)) H ≤ raw H n σ d → worth H n σ b ≡ worth H n σ d
+      by true e u v = unfold due in (omega arith)
+      by false e u v = unfold due in (omega arith)
 
-      by : (t : Bool) → raw H n σ after ≡ raw H n σ (setWeight l 0 b) + b .weight l →
-          raw H n σ (setWeight l 0 b) + due (not t) (b .weight l) ≡ raw H n σ b + due (not t) 0 →
-          due (not (not t)) H ≤ raw H n σ b → due (not (not t)) H ≤ raw H n σ after → worth H n σ b ≡ worth H n σ after
-      by true p q u v = unfold due in (omega arith)
-      by false p q u v = unfold due in (omega arith)
+  -- neither is hard: one of the two is false, so what was taken from both was live once
+  soft-level : (l : Literal) (s : ℕ) (b d : Branch) → In n l → Takes l s s b d → (σ : Assignment) → worth H n σ b ≡ worth H n σ d
+  soft-level l s b d h t σ = omega (arith, raw-takes H n σ l s s b d h t)
 
-  -- neither is hard: one of the two is false, so s was live once
-  soft-level : (x s : ℕ) (b : Branch) → In n (pos x) → s ≤ b .weight (pos x) → s ≤ b .weight (neg x) → (σ : Assignment) →
-      worth H n σ b ≡ worth H n σ (book s (setWeight (pos x) (b .weight (pos x) - s) (setWeight (neg x) (b .weight (neg x) - s) b)))
-  soft-level x s b h p q σ =
-      by (σ x) (raw-book H n σ s after)
-      (unfold holds in (raw-set H n σ (neg x) (b .weight (neg x) - s) b (unfold variableOf in h)))
-      (unfold holds setWeight same in (raw-set H n σ (pos x) (b .weight (pos x) - s) half h))
-    where
-      half : Branch
-      half = setWeight (neg x) (b .weight (neg x) - s) b
+  one-place : (b d : Branch) → Sane n b → d .rules ≡ b .rules → ((σ : Assignment) → worth H n σ b ≡ worth H n σ d) →
+      Fair H n b (d ∷ [])
+  one-place b d s r h =
+      record { even = λ σ. unfold least in (omega (arith, h σ)); sane = (subst (Every (Whole n)) (sym r) s, tt) }
 
-      after : Branch
-      after = setWeight (pos x) (b .weight (pos x) - s) half
-
-      by : (t : Bool) → raw H n σ (book s after) ≡ raw H n σ after + s →
-          raw H n σ half + due (not (not t)) (b .weight (neg x)) ≡ raw H n σ b + due (not (not t)) (b .weight (neg x) - s) →
-          raw H n σ after + due (not t) (b .weight (pos x)) ≡ raw H n σ half + due (not t) (b .weight (pos x) - s) →
-          worth H n σ b ≡ worth H n σ (book s after)
-      by true u v w = unfold due in (omega arith)
-      by false u v w = unfold due in (omega arith)
-
-  one-place : {b b′ : Branch} → ((σ : Assignment) → worth H n σ b ≡ worth H n σ b′) → Sane n b′ → Fair H n b (b′ ∷ [])
-  one-place {b} {b′} h s = record { even = λ σ. unfold least in (omega (arith, h σ)); sane = (s, tt) }
-
-  pub contradict-fair : (x : ℕ) (b b′ : Branch) → 1 ≤ x → x ≤ n → Sane n b → Contradiction x b (some b′) → Fair H n b (b′ ∷ [])
+  pub contradict-fair : (x : ℕ) (b d : Branch) → 1 ≤ x → x ≤ n → Sane n b → Contradiction x b (some d) → Fair H n b (d ∷ [])
   unfolding variableOf
-  contradict-fair x b b′ lo hi s (bothHard p q) = one-place (both-level x b (lo, hi) p q) (unfold kill in s)
-  contradict-fair x b b′ lo hi s (oneHard l v m w) = one-place (one-level l b (rw v (lo, hi)) m) (unfold book setWeight in s)
-  contradict-fair x b b′ lo hi s (bothSoft c e p) = one-place (soft-level x c b (lo, hi) (omega arith) (omega arith)) (unfold book setWeight in s)
+  contradict-fair x b d lo hi s (bothHard p q t) = one-place b d s (t .rules) (both-level x b d (lo, hi) p q t)
+  contradict-fair x b d lo hi s (oneHard l v m w t) = one-place b d s (t .rules) (one-level l b d (rw v (lo, hi)) m t)
+  contradict-fair x b d lo hi s (bothSoft c e p t) = one-place b d s (t .rules) (soft-level (pos x) c b d (lo, hi) t)

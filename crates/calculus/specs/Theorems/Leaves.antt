@@ -12,7 +12,7 @@ use Rattle.instance.specs.Clause.{Literal, Weight, soft, Body, clause, Clause, 
 use Rattle.calculus.specs.Bounds.{branching, countOf, productOf}
 use Rattle.calculus.specs.Branch.{Branch, blank, withRules, keep, putAt, put, unitOf, nothing, gain, several, numbered, enter, rootFrom, root, spent, branches}
 use Rattle.calculus.specs.Theorems.Sum.{fold, fold-snoc, fold-put}
-use Rattle.calculus.specs.Theorems.Steps.{single, Extension, opens}
+use Rattle.calculus.specs.Theorems.Cases.{single, Extension, opens}
 use Rattle.calculus.specs.Theorems.Unchanged.{nothing-leaves, unit-leaves}
 
 -- what a clause counts, and z where it is spent
@@ -38,7 +38,11 @@ unspent-most z g c h = by (spent (c .weight))
     by false = omega arith
 
 -- ---- a clause that is spent counts no more: of a sum, and of a product
-module _ (op : ℕ → ℕ → ℕ) (swap : (a b c : ℕ) → op a (op b c) ≡ op b (op a c)) (z : ℕ) (unit : (v : ℕ) → op z v ≡ v) (g : Body → ℕ) where
+module _ (op : ℕ → ℕ → ℕ)
+    (swap : (a b c : ℕ) → op a (op b c) ≡ op b (op a c))
+    (z : ℕ)
+    (unit : (v : ℕ) → op z v ≡ v)
+    (g : Body → ℕ) where
   abbrev total : Branch → ℕ
   total b = fold op z (unspent z g) (b .rules)
 
@@ -51,7 +55,8 @@ module _ (op : ℕ → ℕ → ℕ) (swap : (a b c : ℕ) → op a (op b c) ≡ 
 
   spent-keep : (p : Body) (b : Branch) → total (keep (soft 0) p b) ≡ total b
   unfolding keep withRules
-  spent-keep p b = fold-snoc op swap z (unspent z g) (b .rules) (record { weight = soft 0; body = p }) ∙ unfold unspent spent in (unit (total b))
+  spent-keep p b =
+      fold-snoc op swap z (unspent z g) (b .rules) (record { weight = soft 0; body = p }) ∙ unfold unspent spent in (unit (total b))
 
 module _ (b : Branch) (i : ℕ) (c : Clause) (e : clauseAt (b .rules) i ≡ some c) (u : spent (c .weight) ≡ false) where
   pub remaining-put : 1 + remaining ((put i (soft 0) b) .rules) ≡ remaining (b .rules)
@@ -76,7 +81,8 @@ leaves-spent : (p : Body) (b : Branch) → leaves ((keep (soft 0) p b) .rules) �
 leaves-spent = spent-keep _*_ mul-left-comm 1 one-mul countOf
 
 -- ---- counts of literals
-countOf-several : (l k : Literal) (ks : List Literal) → tautology (l ∷ k ∷ ks) ≡ false → countOf (clause (l ∷ k ∷ ks)) ≡ length (l ∷ k ∷ ks)
+countOf-several : (l k : Literal) (ks : List Literal) → tautology (l ∷ k ∷ ks) ≡ false →
+    countOf (clause (l ∷ k ∷ ks)) ≡ length (l ∷ k ∷ ks)
 unfolding countOf branching several
 countOf-several l k ks e = rw (e, countOf)
 
@@ -95,7 +101,8 @@ pub record Parted (b : Branch) (i : ℕ) (bs : List Branch) : Type 0 where
   pub two : 2 ≤ length bs
   pub shared : length bs * leaves ((put i (soft 0) b) .rules) ≡ leaves (b .rules)
 
-pub extension-parts : (b : Branch) (i : ℕ) (c : Clause) (bs : List Branch) → clauseAt (b .rules) i ≡ some c → Extension b i c (some bs) → Parted b i bs
+pub extension-parts : (b : Branch) (i : ℕ) (c : Clause) (bs : List Branch) → clauseAt (b .rules) i ≡ some c →
+    Extension b i c (some bs) → Parted b i bs
 extension-parts b i c bs e (opens l k ks q t u) = record {
   two = rw (branches-count (l ∷ k ∷ ks)) (omega arith);
   shared = rw (branches-count (l ∷ k ∷ ks)) (rw (q, countOf-several l k ks t) at (leaves-put b i c e u));
@@ -109,7 +116,8 @@ extension-parts b i c bs e (opens l k ks q t u) = record {
             length (branches (c .weight) (map single (l ∷ ls)) (put i (soft 0) b)) ≡ length (l ∷ ls)
         one-more h = unfold branches in (ap suc h)
 
-pub extension-remaining : (b : Branch) (i : ℕ) (c : Clause) (bs : List Branch) → clauseAt (b .rules) i ≡ some c → Extension b i c (some bs) →
+pub extension-remaining : (b : Branch) (i : ℕ) (c : Clause) (bs : List Branch) → clauseAt (b .rules) i ≡ some c →
+    Extension b i c (some bs) →
     1 + remaining ((put i (soft 0) b) .rules) ≡ remaining (b .rules)
 extension-remaining b i c bs e (opens l k ks q t u) = remaining-put b i c e u
 
@@ -128,20 +136,28 @@ unfolding enter numbered several gain
 enter-leaves w (clause []) b =
     unfold countOf branching several in (omega (arith, leaves-spent (clause []) (nothing w b), ap leaves (nothing-leaves w b)))
 enter-leaves w (clause (l ∷ [])) b =
-    unfold countOf branching several in (omega (arith, leaves-spent (clause (l ∷ [])) (unitOf w l b), ap leaves ((unit-leaves w l b) .rules)))
+    unfold countOf branching several in (
+    omega (arith, leaves-spent (clause (l ∷ [])) (unitOf w l b), ap leaves ((unit-leaves w l b) .rules)))
 enter-leaves w (clause (l ∷ k ∷ ks)) b =
     unfold keep withRules in (
     omega (
       arith,
-      fold-snoc _*_ mul-left-comm 1 (unspent 1 countOf) (b .rules) (record { weight = w; body = clause (l ∷ k ∷ ks) }),
-      mul-le-mul-right (leaves (b .rules)) (unspent-most 1 countOf (record { weight = w; body = clause (l ∷ k ∷ ks) }) (countOf-some (clause (l ∷ k ∷ ks)))),
+      fold-snoc _*_ mul-left-comm 1 (unspent 1 countOf) (b .rules) c,
+      mul-le-mul-right (leaves (b .rules)) (unspent-most 1 countOf c (countOf-some (c .body))),
     ))
+  where
+    c : Clause
+    c = record { weight = w; body = clause (l ∷ k ∷ ks) }
 
 rootFrom-leaves : (b : Branch) (cs : List Clause) → leaves ((rootFrom b cs) .rules) ≤ productOf cs * leaves (b .rules)
 unfolding rootFrom productOf
 rootFrom-leaves b [] = omega arith
 rootFrom-leaves b (c ∷ cs) =
-    omega (arith, rootFrom-leaves (enter (c .weight) (c .body) b) cs, mul-le-mul-left (productOf cs) (enter-leaves (c .weight) (c .body) b))
+    omega (
+      arith,
+      rootFrom-leaves (enter (c .weight) (c .body) b) cs,
+      mul-le-mul-left (productOf cs) (enter-leaves (c .weight) (c .body) b),
+    )
 
 pub root-leaves : (cs : List Clause) → leaves ((root cs) .rules) ≤ productOf cs
 unfolding root

@@ -1,7 +1,6 @@
 -- Demand 3 over records: with room for P * (3 * K + 4) + 6 bytes Write writes a derivation of a true claim, of at most
 -- P * (K + 2) - 1 records after the claim, that Check accepts.
 use Prim.Native.Nat.{ℕ, suc, _+_, _-_, _*_, _<_, _≤_}
-use mathlib.Core.Bool.{true, false}
 use mathlib.Core.List.{List, [], _∷_, _++_, map}
 use mathlib.Core.Option.{some}
 use mathlib.Core.Path.{_≡_, refl, ap}
@@ -20,7 +19,7 @@ use Rattle.calculus.specs.Bounds.{productOf, bytesOf, InRange}
 use Rattle.calculus.specs.Branch.{Branch, put, root}
 use Rattle.calculus.specs.Claims.{True, Refutes}
 use Rattle.calculus.specs.Derivation.{whole, size, walk}
-use Rattle.calculus.specs.Writing.{Move, Draft, wrote, noRoom, stuck, also, writeFrom, found}
+use Rattle.calculus.specs.Writing.{Draft, wrote, noRoom, stuck, also, writeFrom, found}
 use Rattle.calculus.specs.Theorems.Basics.{clash, every-append, every-weaken}
 use Rattle.calculus.specs.Theorems.Sum.{fold, sumOf, sum-append}
 use Rattle.calculus.specs.Theorems.Fair.{Sane}
@@ -29,7 +28,8 @@ use Rattle.calculus.specs.Theorems.Numbers.{write-range}
 use Rattle.calculus.specs.Theorems.Potential.{potential, contradict-potential, extend-potential, root-potential}
 use Rattle.calculus.specs.Theorems.Root.{sane-root}
 use Rattle.calculus.specs.Theorems.Sound.{stepped-sane}
-use Rattle.calculus.specs.Theorems.Steps.{Extension, Stepped, closed, contradicted, extended}
+use Rattle.calculus.specs.Theorems.Cases.{Extension}
+use Rattle.calculus.specs.Theorems.Steps.{Stepped, closed, contradicted, extended}
 use Rattle.calculus.specs.Theorems.Stuck.{stuck-refutes}
 use Rattle.calculus.specs.Theorems.Unchanged.{Gained, contradiction-leaves, extension-leaves}
 use Rattle.calculus.specs.Theorems.Written.{size-some, write-kept, wrote-kept, write-accepted}
@@ -77,16 +77,17 @@ module _ (a n : ℕ) where
   branches-fees m v (d ∷ ds) h l = omega (arith, fees-gross d, one, branches-fees m v ds (h .1) (l .1))
     where
       one : gross a n d ≤ m * (a * v + a + 1)
-      one = unfold gross in (omega (arith, ap (λ u. u * (a * potential n d + a + 1)) (h .0), mul-le-mul-left m (mul-le-mul-left a (l .0))))
+      one =
+          unfold gross in (omega (arith, ap (λ u. u * (a * potential n d + a + 1)) (h .0), mul-le-mul-left m (mul-le-mul-left a (l .0))))
 
-  extend-fees : (b : Branch) (i : ℕ) (c : Clause) (bs : List Branch) → Sane n b → clauseAt (b .rules) i ≡ some c → Extension b i c (some bs) →
+  extend-fees : (b : Branch) (i : ℕ) (c : Clause) (bs : List Branch) → Sane n b → clauseAt (b .rules) i ≡ some c →
+      Extension b i c (some bs) →
       a + sumOf (fees a n) bs ≤ fees a n b
   extend-fees b i c bs s e x =
       omega (
         arith,
         fees-gross b,
-        branches-fees (leaves ((put i (soft 0) b) .rules)) (potential n b) bs
-            (every-weaken (λ d (g : Gained (put i (soft 0) b) d). ap leaves (g .rules)) bs (extension-leaves b i c bs x)) (extend-potential n b i c bs s e x),
+        branches-fees (leaves ((put i (soft 0) b) .rules)) (potential n b) bs same (extend-potential n b i c bs s e x),
         whole,
         mul-le-mul-right a (parts .two),
       )
@@ -94,24 +95,36 @@ module _ (a n : ℕ) where
       parts : Parted b i bs
       parts = extension-parts b i c bs e x
 
+      same : Every (λ d. leaves (d .rules) ≡ leaves ((put i (soft 0) b) .rules)) bs
+      same = every-weaken (λ d (g : Gained (put i (soft 0) b) d). ap leaves (g .rules)) bs (extension-leaves b i c bs x)
+
       whole : gross a n b ≡ length bs * (leaves ((put i (soft 0) b) .rules) * (a * potential n b + a + 1))
       whole = unfold gross in (rw (← (parts .shared)) (omega arith))
 
 -- a record costs its fee at least
-stepped-fees : (a : ℕ) (I : Problem) (k : Claim) (r : Record) (b : Branch) (new : List Branch) → Sane (I .variables) b → Stepped I k b r new →
+stepped-fees : (a : ℕ) (I : Problem) (k : Claim) (r : Record) (b : Branch) (new : List Branch) → Sane (I .variables) b →
+    Stepped I k b r new →
     fee a r + sumOf (fees a (I .variables)) new ≤ fees a (I .variables) b
 unfolding fee
-stepped-fees a I k r b new s (closed e) = unfold fold in (omega (arith, fees-gross a (I .variables) b, gross-some a (I .variables) b))
+stepped-fees a I k r b new s (closed e) =
+    unfold fold in (omega (arith, fees-gross a (I .variables) b, gross-some a (I .variables) b))
 stepped-fees a I k r b new s (contradicted {b′ = d} x q lo hi c) =
-    unfold fold in (omega (arith, contradict-fees a (I .variables) b d ((contradiction-leaves x b d c) .rules) (contradict-potential (I .variables) x b d lo hi q c)))
+    unfold fold in (
+    omega (
+      arith,
+      contradict-fees a (I .variables) b d ((contradiction-leaves x b d c) .rules) (contradict-potential (I .variables) x b d lo hi q c),
+    ))
 stepped-fees a I k r b new s (extended i c q e x) = extend-fees a (I .variables) b i c new s e x
 
 -- the root's fees, from K and P
-root-fees : (a : ℕ) (I : Problem) → Fits I → fees a (I .variables) (root (I .clauses)) + a ≤ productOf (I .clauses) * (a * length (I .clauses) + a + 1)
+root-fees : (a : ℕ) (I : Problem) → Fits I →
+    fees a (I .variables) (root (I .clauses)) + a ≤ productOf (I .clauses) * (a * length (I .clauses) + a + 1)
 root-fees a I fits = omega (arith, fees-gross a (I .variables) (root (I .clauses)), whole)
   where
     whole : gross a (I .variables) (root (I .clauses)) ≤ productOf (I .clauses) * (a * length (I .clauses) + a + 1)
-    whole = unfold gross in (mul-le-mul (root-leaves (I .clauses)) (omega (arith, mul-le-mul-left a (root-potential (I .variables) (I .clauses) fits))))
+    whole =
+        unfold gross in (
+        mul-le-mul (root-leaves (I .clauses)) (omega (arith, mul-le-mul-left a (root-potential (I .variables) (I .clauses) fits))))
 
 module _ (I : Problem) (k : Claim) (room : ℕ) where
   abbrev SaneAll : List Branch → Type 0
@@ -120,15 +133,18 @@ module _ (I : Problem) (k : Claim) (room : ℕ) where
   abbrev feesAll : ℕ → List Branch → ℕ
   feesAll a = sumOf (fees a (I .variables))
 
-  next-sane : (b : Branch) (bs : List Branch) (r : Record) (new : List Branch) → SaneAll (b ∷ bs) → Stepped I k b r new → SaneAll (new ++ bs)
+  next-sane : (b : Branch) (bs : List Branch) (r : Record) (new : List Branch) → SaneAll (b ∷ bs) → Stepped I k b r new →
+      SaneAll (new ++ bs)
   next-sane b bs r new s d = every-append (Sane (I .variables)) new bs (stepped-sane I k r b new (s .0) d) (s .1)
 
-  next-fees : (a : ℕ) (b : Branch) (bs : List Branch) (r : Record) (new : List Branch) → SaneAll (b ∷ bs) → Stepped I k b r new → fee a r + feesAll a (new ++ bs) ≤ feesAll a (b ∷ bs)
+  next-fees : (a : ℕ) (b : Branch) (bs : List Branch) (r : Record) (new : List Branch) → SaneAll (b ∷ bs) →
+      Stepped I k b r new → fee a r + feesAll a (new ++ bs) ≤ feesAll a (b ∷ bs)
   unfolding fold
   next-fees a b bs r new s d = omega (arith, stepped-fees a I k r b new (s .0) d, sum-append (fees a (I .variables)) new bs)
 
   -- what is written costs no more than the open branches' fees
-  write-fees : (a fuel at : ℕ) (bs : List Branch) (rs : List Record) → SaneAll bs → writeFrom I k fuel room at bs ≡ wrote rs → sumOf (fee a) rs ≤ feesAll a bs
+  write-fees : (a fuel at : ℕ) (bs : List Branch) (rs : List Record) → SaneAll bs → writeFrom I k fuel room at bs ≡ wrote rs →
+      sumOf (fee a) rs ≤ feesAll a bs
   write-fees a = wrote-kept I k room SaneAll (λ bs rs. sumOf (fee a) rs ≤ feesAll a bs) (record {
     end = unfold fold in (omega arith);
     next = λ b bs m s c. next-sane b bs (m .chosen) (m .places) s (c .did);
@@ -150,8 +166,9 @@ module _ (I : Problem) (k : Claim) (room : ℕ) where
   fee-size (C x) = refl
   fee-size Q = refl
 
-  write-has-room : (fuel at : ℕ) (bs : List Branch) → SaneAll bs → at + feesAll 3 bs ≤ room → room < at + fuel → HasRoom (writeFrom I k fuel room at bs)
-  write-has-room fuel at bs s l u = write-kept I k room (λ fuel at bs. SaneAll bs × (at + feesAll 3 bs ≤ room) × (room < at + fuel)) (λ at bs. HasRoom) (record {
+  write-has-room : (fuel at : ℕ) (bs : List Branch) → SaneAll bs → at + feesAll 3 bs ≤ room → room < at + fuel →
+      HasRoom (writeFrom I k fuel room at bs)
+  write-has-room fuel at bs s l u = write-kept I k room Inv (λ at bs. HasRoom) (record {
     end = λ fuel at h. tt;
     dry = λ at b bs h. omega arith;
     full = λ fuel at b bs m h d l. omega (arith, next-fees 3 b bs (m .chosen) (m .places) (h .0) (d .move .did), fee-size (m .chosen));
@@ -164,6 +181,9 @@ module _ (I : Problem) (k : Claim) (room : ℕ) where
     more = λ fuel at b bs m h d l. one-more (m .chosen);
   }) fuel at bs (s, l, u)
     where
+      Inv : ℕ → ℕ → List Branch → Type 0
+      Inv fuel at bs = SaneAll bs × (at + feesAll 3 bs ≤ room) × (room < at + fuel)
+
       one-more : (r : Record) (w : Draft) → HasRoom w → HasRoom (also r w)
       one-more r (wrote rs) h = unfold also in tt
       one-more r (noRoom at) h = unfold also in h
@@ -200,7 +220,8 @@ pub record Answer (I : Problem) (k : Claim) (from : ℕ) (w : Draft) : Type 0 wh
 
 -- With the room that demand 3 names, Write answers every true claim. The claim's own bytes are 9 at most.
 pub write-answers : (I : Problem) → Fits I → (k : Claim) → True I k → (from room : ℕ) → from ≤ 9 →
-    productOf (I .clauses) * (3 * length (I .clauses) + 4) + 6 ≤ room → Answer I k from (writeFrom I k (suc room) room from (root (I .clauses) ∷ []))
+    productOf (I .clauses) * (3 * length (I .clauses) + 4) + 6 ≤ room →
+    Answer I k from (writeFrom I k (suc room) room from (root (I .clauses) ∷ []))
 write-answers I fits k t from room l r = by (writeFrom I k (suc room) room from start) refl roomy
   where
     start : List Branch

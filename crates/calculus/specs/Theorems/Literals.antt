@@ -37,34 +37,32 @@ unfolding opposite variableOf
 opposite-in n (pos x) h = h
 opposite-in n (neg x) h = h
 
+pub opposite-apart : (l : Literal) → opposite l ≡ l → ⊥
+unfolding opposite
+opposite-apart (pos x) e = let z : _≡_ {A = ℕ} 0 1 = cc in omega arith
+opposite-apart (neg x) e = let z : _≡_ {A = ℕ} 0 1 = cc in omega arith
+
 -- ---- sums over the literals
 unfoldable pub litSum : ℕ → (Literal → ℕ) → ℕ
 litSum n f = sumTo n (λ x. f (pos (suc x)) + f (neg (suc x)))
 
+-- f and g differ at l and its opposite only
+pub litSum-pair : (n : ℕ) (f g : Literal → ℕ) (l : Literal) → In n l →
+    ((k : Literal) → (variableOf k ≡ variableOf l → ⊥) → f k ≡ g k) →
+    litSum n f + (g l + g (opposite l)) ≡ litSum n g + (f l + f (opposite l))
+unfolding litSum variableOf opposite
+litSum-pair n f g (pos zero) h d = absurd (omega arith)
+litSum-pair n f g (neg zero) h d = absurd (omega arith)
+litSum-pair n f g (pos (suc x)) h d =
+    sumTo-at n _ _ x (omega arith) (λ y u. ap₂ _+_ (d (pos (suc y)) (λ q. u (suc-inj q))) (d (neg (suc y)) (λ q. u (suc-inj q))))
+litSum-pair n f g (neg (suc x)) h d =
+    omega (arith, sumTo-at n _ _ x (omega arith) (λ y u. ap₂ _+_ (d (pos (suc y)) (λ q. u (suc-inj q))) (d (neg (suc y)) (λ q. u (suc-inj q)))))
+
 -- f and g differ at l only
-pub litSum-at : (n : ℕ) (f g : Literal → ℕ) (l : Literal) → In n l → ((k : Literal) → (k ≡ l → ⊥) → f k ≡ g k) →
+litSum-at : (n : ℕ) (f g : Literal → ℕ) (l : Literal) → In n l → ((k : Literal) → (k ≡ l → ⊥) → f k ≡ g k) →
     litSum n f + g l ≡ litSum n g + f l
-unfolding litSum variableOf
-litSum-at n f g (pos zero) h d = absurd (omega arith)
-litSum-at n f g (neg zero) h d = absurd (omega arith)
-litSum-at n f g (pos (suc x)) h d =
-    omega (
-      arith,
-      sumTo-at n _ _ x (omega arith) (λ y u. ap₂ _+_ (d (pos (suc y)) (λ q. u (suc-inj (ap variableOf q)))) (d (neg (suc y)) other)),
-      d (neg (suc x)) other,
-    )
-  where
-    other : {y : ℕ} → neg y ≡ pos (suc x) → ⊥
-    other {y} q = let z : _≡_ {A = ℕ} 0 1 = cc in omega arith
-litSum-at n f g (neg (suc x)) h d =
-    omega (
-      arith,
-      sumTo-at n _ _ x (omega arith) (λ y u. ap₂ _+_ (d (pos (suc y)) other) (d (neg (suc y)) (λ q. u (suc-inj (ap variableOf q))))),
-      d (pos (suc x)) other,
-    )
-  where
-    other : {y : ℕ} → pos y ≡ neg (suc x) → ⊥
-    other {y} q = let z : _≡_ {A = ℕ} 0 1 = cc in omega arith
+litSum-at n f g l h d =
+    omega (arith, litSum-pair n f g l h (λ k u. d k (λ q. u (ap variableOf q))), d (opposite l) (opposite-apart l))
 
 pub litSum-same : (n : ℕ) (f g : Literal → ℕ) → ((k : Literal) → In n k → f k ≡ g k) → litSum n f ≡ litSum n g
 unfolding litSum variableOf
@@ -89,25 +87,30 @@ litSum-ge n f l h = omega (arith, litSum-at n f g l h (λ k d. sym (off k (same-
     on e = unfold due in (rw e)
 
 -- ---- one literal's weight, one literal's mark
+module _ (l : Literal) (v : ℕ) (b : Branch) where
+  pub set-own : (setWeight l v b) .weight l ≡ v
+  unfolding setWeight
+  set-own = rw (same-self l, setWeight)
+
+  pub set-other : (k : Literal) → (k ≡ l → ⊥) → (setWeight l v b) .weight k ≡ b .weight k
+  unfolding setWeight
+  set-other k d = rw (same-false k l d, setWeight)
+
 module _ (n : ℕ) (l : Literal) (b : Branch) (h : In n l) where
   pub litSum-weight : (F : Literal → ℕ → ℕ) (v : ℕ) →
       litSum n (λ k. F k ((setWeight l v b) .weight k)) + F l (b .weight l) ≡ litSum n (λ k. F k (b .weight k)) + F l v
   litSum-weight F v =
-      rw own at (litSum-at n (λ k. F k ((setWeight l v b) .weight k)) (λ k. F k (b .weight k)) l h (λ k d. ap (F k) (off k (same-false k l d))))
-    where
-      own : (setWeight l v b) .weight l ≡ v
-      own = unfold setWeight in (rw (same-self l, setWeight))
-
-      off : (k : Literal) → same k l ≡ false → (setWeight l v b) .weight k ≡ b .weight k
-      off k e = unfold setWeight in (rw (e, setWeight))
+      rw (set-own l v b) at
+      (litSum-at n (λ k. F k ((setWeight l v b) .weight k)) (λ k. F k (b .weight k)) l h (λ k d. ap (F k) (set-other l v b k d)))
 
   pub litSum-mark : (F : Literal → Bool → ℕ) →
       litSum n (λ k. F k ((mark l b) .marked k)) + F l (b .marked l) ≡ litSum n (λ k. F k (b .marked k)) + F l true
   litSum-mark F =
-      rw own at (litSum-at n (λ k. F k ((mark l b) .marked k)) (λ k. F k (b .marked k)) l h (λ k d. ap (F k) (off k (same-false k l d))))
+      rw own at
+      (litSum-at n (λ k. F k ((mark l b) .marked k)) (λ k. F k (b .marked k)) l h (λ k d. ap (F k) (other k (same-false k l d))))
     where
       own : (mark l b) .marked l ≡ true
       own = unfold mark in (rw (same-self l))
 
-      off : (k : Literal) → same k l ≡ false → (mark l b) .marked k ≡ b .marked k
-      off k e = unfold mark in (rw e)
+      other : (k : Literal) → same k l ≡ false → (mark l b) .marked k ≡ b .marked k
+      other k e = unfold mark in (rw e)

@@ -1,13 +1,13 @@
 -- What the root is worth: what the clauses come to.
-use Prim.Native.Nat.{ℕ, suc, _+_, _<_, min}
-use mathlib.Core.Bool.{Bool, true, false, not, _&&_, and-eq-true-iff}
+use Prim.Native.Nat.{ℕ, _+_, _<_, min}
+use mathlib.Core.Bool.{Bool, true, false, not, and-eq-true-iff}
 use mathlib.Core.List.{List, [], _∷_}
 use mathlib.Core.Path.{_≡_, refl}
 use native.Mathlib.Omega.{arith}
-use Rattle.instance.specs.Clause.{Literal, Weight, hard, soft, Body, Clause}
+use Rattle.instance.specs.Clause.{Weight, hard, soft, Body, Clause}
 use Rattle.instance.specs.Meaning.{Assignment, holds, broken, fine, feasible, priced, cost}
 use Rattle.instance.specs.Within.{Every, InBody}
-use Rattle.calculus.specs.Branch.{Branch, blank, keep, gain, numbered, enter, rootFrom, root}
+use Rattle.calculus.specs.Branch.{Branch, blank, gain, numbered, enter, rootFrom, root}
 use Rattle.calculus.specs.Theorems.Basics.{clash, due, due-zero}
 use Rattle.calculus.specs.Theorems.Sum.{fold}
 use Rattle.calculus.specs.Theorems.Literals.{litSum-zero}
@@ -21,23 +21,28 @@ Covered n cs = Every (λ c. InBody n (c .body)) cs
 module _ (H n : ℕ) (σ : Assignment) where
   adds-enter : (w : Weight) (p : Body) (b : Branch) → InBody n p → Adds H n σ (due (broken σ p) (toll H w)) b (enter w p b)
   unfolding enter
-  adds-enter w p b h = by (numbered p)
+  adds-enter w p b h = by (numbered p) refl (adds-gain H n σ w p b h)
     where
-      by : (t : Bool) → Adds H n σ (due (broken σ p) (toll H w)) b (elim t as (λ _. Branch) [ true ↦ gain w p b | false ↦ keep (soft 0) p (gain w p b) ])
-      by true = adds-gain H n σ w p b h
-      by false = unfold toll in (omega (arith, raw-keep H n σ (soft 0) p (gain w p b), due-zero (broken σ p), adds-gain H n σ w p b h))
+      by : (t : Bool) → numbered p ≡ t → Adds H n σ (due (broken σ p) (toll H w)) b (gain w p b) →
+          Adds H n σ (due (broken σ p) (toll H w)) b (enter w p b)
+      by true e g = rw (e, enter) g
+      by false e g = rw (e, enter) (unfold toll in (omega (arith, raw-keep H n σ (soft 0) p (gain w p b), due-zero (broken σ p))))
 
-  rootFrom-worth : (b : Branch) (cs : List Clause) → Covered n cs → worth H n σ (rootFrom b cs) ≡ min H (raw H n σ b + bill H σ cs)
+  rootFrom-worth : (b : Branch) (cs : List Clause) → Covered n cs →
+      worth H n σ (rootFrom b cs) ≡ min H (raw H n σ b + bill H σ cs)
   unfolding rootFrom fold charge
   rootFrom-worth b [] h = omega arith
-  rootFrom-worth b (c ∷ cs) h = omega (arith, rootFrom-worth (enter (c .weight) (c .body) b) cs (h .1), adds-enter (c .weight) (c .body) b (h .0))
+  rootFrom-worth b (c ∷ cs) h =
+      omega (arith, rootFrom-worth (enter (c .weight) (c .body) b) cs (h .1), adds-enter (c .weight) (c .body) b (h .0))
 
   pub root-worth : (cs : List Clause) → Covered n cs → worth H n σ (root cs) ≡ min H (bill H σ cs)
   unfolding root
   root-worth cs h = omega (arith, rootFrom-worth blank cs h, empty)
     where
       empty : raw H n σ blank ≡ 0
-      empty = unfold raw blank units unitToll due fold in (omega (arith, litSum-zero n (λ k. due (not (holds σ k)) 0) (λ k h. due-zero (not (holds σ k)))))
+      empty =
+          unfold raw blank units unitToll due fold in (
+          omega (arith, litSum-zero n (λ k. due (not (holds σ k)) 0) (λ k h. due-zero (not (holds σ k)))))
 
   -- the bill of an assignment that meets the hard clauses is its cost
   pub bill-cost : (cs : List Clause) → feasible σ cs ≡ true → bill H σ cs ≡ cost σ cs
@@ -76,11 +81,11 @@ module _ (H n : ℕ) (σ : Assignment) where
 module _ (n : ℕ) where
   sane-enter : (w : Weight) (p : Body) (b : Branch) → InBody n p → Sane n b → Sane n (enter w p b)
   unfolding enter
-  sane-enter w p b h s = by (numbered p)
+  sane-enter w p b h s = by (numbered p) refl (sane-gain n w p b h s)
     where
-      by : (t : Bool) → Sane n (elim t as (λ _. Branch) [ true ↦ gain w p b | false ↦ keep (soft 0) p (gain w p b) ])
-      by true = sane-gain n w p b h s
-      by false = sane-keep n (soft 0) p (gain w p b) h (λ q. refl) (sane-gain n w p b h s)
+      by : (t : Bool) → numbered p ≡ t → Sane n (gain w p b) → Sane n (enter w p b)
+      by true e g = rw (e, enter) g
+      by false e g = rw (e, enter) (sane-keep n (soft 0) p (gain w p b) h (λ q. refl) g)
 
   sane-from : (b : Branch) (cs : List Clause) → Covered n cs → Sane n b → Sane n (rootFrom b cs)
   unfolding rootFrom

@@ -1,11 +1,10 @@
 -- Demand 2 over records: what an accepted derivation claims is true. The least worth of the open branches never changes, and at
 -- the end none is open.
-use Prim.Native.Nat.{ℕ, suc, _+_, _≤_, min}
-use mathlib.Core.Bool.{Bool, true, false, _||_}
+use Prim.Native.Nat.{ℕ, suc, _≤_, min}
+use mathlib.Core.Bool.{Bool, true, false}
 use mathlib.Core.List.{List, [], _∷_, _++_}
 use mathlib.Core.Path.{_≡_, refl, subst}
 use native.Mathlib.Omega.{arith}
-use lib.Dec.{leb}
 use Rattle.instance.specs.Clause.{Problem}
 use Rattle.instance.specs.Meaning.{Assignment, feasible, cost}
 use Rattle.instance.specs.Within.{Every, Fits}
@@ -17,8 +16,8 @@ use Rattle.calculus.specs.declared.Record.{Record}
 use Rattle.calculus.specs.Branch.{Branch, root}
 use Rattle.calculus.specs.Claims.{True}
 use Rattle.calculus.specs.Derivation.{Item, closable, walk}
-use Rattle.calculus.specs.Theorems.Basics.{tests, due, every-append}
-use Rattle.calculus.specs.Theorems.Worth.{bill, units, raw, worth, least}
+use Rattle.calculus.specs.Theorems.Basics.{tests, or-second, every-append}
+use Rattle.calculus.specs.Theorems.Worth.{bill, raw, least, raw-booked, raw-dead}
 use Rattle.calculus.specs.Theorems.Fair.{Sane, Fair}
 use Rattle.calculus.specs.Theorems.Extension.{extend-fair}
 use Rattle.calculus.specs.Theorems.Contradiction.{contradict-fair}
@@ -41,17 +40,18 @@ module _ (I : Problem) where
 
   -- a branch that may be closed is worth the cap
   closes : (k : Claim) (H : ℕ) → Caps k H → (b : Branch) → closable k b ≡ true → (σ : Assignment) → H ≤ raw H n σ b
-  unfolding closable raw
-  closes (Minimum m) H e b h σ = by (b .dead) h
+  unfolding closable
+  closes (Minimum m) H e b h σ = by (b .dead) refl
     where
-      by : (t : Bool) → (t || leb m (b .booked)) ≡ true → H ≤ b .booked + due t H + units H n σ b + bill H σ (b .rules)
-      by true h = unfold due in (omega arith)
-      by false h = omega (arith, tests)
-  closes Infeasible H e b h σ = rw h (unfold due in (omega arith))
+      by : (t : Bool) → b .dead ≡ t → H ≤ raw H n σ b
+      by true d = raw-dead H n σ b d
+      by false d = let l = or-second (b .dead) _ h d in omega (arith, tests, raw-booked H n σ b)
+  closes Infeasible H e b h σ = raw-dead H n σ b h
 
   module _ (k : Claim) where
     -- each kind of record by its own lemma
-    pub stepped-fair : (H : ℕ) → Caps k H → (r : Record) (b : Branch) (new : List Branch) → Sane n b → Stepped I k b r new → Fair H n b new
+    pub stepped-fair : (H : ℕ) → Caps k H → (r : Record) (b : Branch) (new : List Branch) → Sane n b → Stepped I k b r new →
+        Fair H n b new
     stepped-fair H q r b new s (closed e) = record { even = λ σ. unfold least in (omega (arith, closes k H q b e σ)); sane = tt }
     stepped-fair H q r b new s (contradicted {b′ = b′} x d lo hi c) = contradict-fair H n x b b′ lo hi s c
     stepped-fair H q r b new s (extended i c d e x) = extend-fair H n b i c new s e x
@@ -87,7 +87,8 @@ module _ (I : Problem) where
       })
 
       -- so every assignment's bill is the cap at least
-      pub accepted-bill : Fits I → (is : List Item) (at m : ℕ) (c : Claim) (a : ℕ) → walk I k is at m (root (I .clauses) ∷ []) ≡ Accepted c a →
+      pub accepted-bill : Fits I → (is : List Item) (at m : ℕ) (c : Claim) (a : ℕ) →
+          walk I k is at m (root (I .clauses) ∷ []) ≡ Accepted c a →
           (σ : Assignment) → H ≤ bill H σ (I .clauses)
       unfolding least
       accepted-bill fits is at m c a e σ =
@@ -97,8 +98,10 @@ module _ (I : Problem) where
             subst (Shown (root (I .clauses) ∷ [])) e (walk-shown is at m (root (I .clauses) ∷ []) (sane-root n (I .clauses) fits, tt)) σ,
           )
 
-  -- Demand 2: an accepted derivation's claim is true.
-  pub sound : Fits I → (k : Claim) (is : List Item) (at m : ℕ) (c : Claim) (a : ℕ) → walk I k is at m (root (I .clauses) ∷ []) ≡ Accepted c a → True I k
+  -- Demand 2: what an accepted derivation claims is true, "the minimum is this number" (no assignment costs less) or "no
+  -- assignment meets the hard clauses".
+  pub sound : Fits I → (k : Claim) (is : List Item) (at m : ℕ) (c : Claim) (a : ℕ) →
+      walk I k is at m (root (I .clauses) ∷ []) ≡ Accepted c a → True I k
   sound fits (Minimum v) is at m c a e =
       λ σ f. omega (arith, accepted-bill (Minimum v) v refl fits is at m c a e σ, bill-cost v n σ (I .clauses) f)
   sound fits Infeasible is at m c a e = λ σ. by σ (feasible σ (I .clauses)) refl

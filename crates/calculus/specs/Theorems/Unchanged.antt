@@ -1,13 +1,13 @@
 -- What a record leaves as it was.
 use Prim.Native.Nat.{ℕ}
-use mathlib.Core.Bool.{Bool, true, false, _||_, or-true}
-use mathlib.Core.List.{List, [], _∷_, map}
+use mathlib.Core.Bool.{true, or-true}
+use mathlib.Core.List.{List, _∷_}
 use mathlib.Core.Option.{some}
 use mathlib.Core.Path.{_≡_, refl}
-use Rattle.instance.specs.Clause.{Literal, Weight, hard, soft, clause, Clause, same}
+use Rattle.instance.specs.Clause.{Literal, Weight, hard, soft, Clause, same}
 use Rattle.instance.specs.Within.{Every}
-use Rattle.calculus.specs.Branch.{Branch, setWeight, mark, book, kill, put, unitOf, nothing, gain, branches}
-use Rattle.calculus.specs.Theorems.Steps.{single, Contradiction, bothHard, oneHard, bothSoft, Extension, opens}
+use Rattle.calculus.specs.Branch.{Branch, setWeight, mark, book, kill, put, unitOf, nothing}
+use Rattle.calculus.specs.Theorems.Cases.{Contradiction, bothHard, oneHard, bothSoft, Extension, opens, branches-each}
 
 -- a contradiction: the clauses and the marks
 pub record Settled (b d : Branch) : Type 0 where
@@ -15,10 +15,9 @@ pub record Settled (b d : Branch) : Type 0 where
   pub marked : d .marked ≡ b .marked
 
 pub contradiction-leaves : (x : ℕ) (b d : Branch) → Contradiction x b (some d) → Settled b d
-unfolding kill book setWeight
-contradiction-leaves x b d (bothHard p q) = record { rules = refl; marked = refl }
-contradiction-leaves x b d (oneHard l v m w) = record { rules = refl; marked = refl }
-contradiction-leaves x b d (bothSoft s e p) = record { rules = refl; marked = refl }
+contradiction-leaves x b d (bothHard p q t) = record { rules = t .rules; marked = t .marked }
+contradiction-leaves x b d (oneHard l v m w t) = record { rules = t .rules; marked = t .marked }
+contradiction-leaves x b d (bothSoft s e p t) = record { rules = t .rules; marked = t .marked }
 
 -- a unit gained: the clauses, whether the branch is dead, and the marks that there were
 pub record Gained (b d : Branch) : Type 0 where
@@ -36,10 +35,8 @@ unfolding nothing kill book
 nothing-leaves hard b = refl
 nothing-leaves (soft w) b = refl
 
-branches-leave : (w : Weight) (ls : List Literal) (b : Branch) → Every (Gained b) (branches w (map single ls) b)
-unfolding branches gain
-branches-leave w [] b = tt
-branches-leave w (l ∷ ls) b = (unit-leaves w l b, branches-leave w ls b)
-
-pub extension-leaves : (b : Branch) (i : ℕ) (c : Clause) (bs : List Branch) → Extension b i c (some bs) → Every (Gained (put i (soft 0) b)) bs
-extension-leaves b i c bs (opens l k ks q t u) = branches-leave (c .weight) (l ∷ k ∷ ks) (put i (soft 0) b)
+pub extension-leaves : (b : Branch) (i : ℕ) (c : Clause) (bs : List Branch) → Extension b i c (some bs) →
+    Every (Gained (put i (soft 0) b)) bs
+extension-leaves b i c bs (opens l k ks q t u) =
+    branches-each (Gained (put i (soft 0) b)) (c .weight) (put i (soft 0) b) (l ∷ k ∷ ks)
+    (λ j m. unit-leaves (c .weight) j (put i (soft 0) b))

@@ -4,7 +4,7 @@ use Prim.Native.Nat.{ℕ, zero, suc, _+_, _≤_, _<_}
 use mathlib.Core.Bool.{Bool, true, false}
 use mathlib.Core.List.{List, [], _∷_, _++_, map}
 use mathlib.Core.Option.{Option, some, none}
-use mathlib.Core.Path.{_≡_, refl, ap, sym, subst, _∙_}
+use mathlib.Core.Path.{_≡_, refl, ap, subst, _∙_}
 use native.Mathlib.Omega.{arith}
 use lib.Dec.{leb}
 use lib.ListN.{length}
@@ -25,17 +25,20 @@ pub record Chosen (I : Problem) (k : Claim) (b : Branch) (m : Move) : Type 0 whe
   pub goes : step I k (m .chosen) b ≡ go (m .places)
   pub did : Stepped I k b (m .chosen) (m .places)
 
-abbrev OnMove : (Move → Type 0) → Option Move → Type 0
+abbrev pub OnMove : (Move → Type 0) → Option Move → Type 0
 OnMove P none = Unit {0}
 OnMove P (some m) = P m
 
-first-chosen : (I : Problem) (k : Claim) (b : Branch) (rs : List Record) → OnMove (Chosen I k b) (first I k rs b)
+pub first-chosen : (I : Problem) (k : Claim) (b : Branch) (rs : List Record) → OnMove (Chosen I k b) (first I k rs b)
 unfolding first
 first-chosen I k b [] = tt
 first-chosen I k b (r ∷ rs) = test (step I k r b) refl (stepped I k b r) (first-chosen I k b rs)
   where
     test : (s : Step) → step I k r b ≡ s → OnGo (Stepped I k b r) s → OnMove (Chosen I k b) (first I k rs b) →
-        OnMove (Chosen I k b) (elim s as (λ _. Option Move) [ go new ↦ some (record { chosen = r; places = new }) | stop e ↦ first I k rs b ])
+        OnMove (Chosen I k b) (elim s as (λ _. Option Move) [
+          | go new ↦ some (record { chosen = r; places = new })
+          | stop e ↦ first I k rs b
+        ])
     test (stop e) q d h = h
     test (go new) q d h = record { goes = q; did = d }
 
@@ -45,23 +48,28 @@ size-some (E i) = omega arith
 size-some (C x) = omega arith
 size-some Q = omega arith
 
--- ---- the induction. Inv holds of the fuel, the bytes written and the open branches; P of the latter two and what comes of them.
 module _ (I : Problem) (k : Claim) (room : ℕ) where
+  -- ---- the induction
   -- m is what Write does on b
   pub record Does (b : Branch) (m : Move) : Type 0 where
     pub least : first I k (candidates I b) b ≡ some m
     pub move : Chosen I k b m
 
+  -- Inv holds of the fuel, the bytes written and the open branches; P of the bytes, the branches and what comes of them: none
+  -- open, no fuel, no room for the next record, nothing allowed, or a record written.
   pub record Kept (Inv : ℕ → ℕ → List Branch → Type 0) (P : ℕ → List Branch → Draft → Type 0) : Type 0 where
     pub end : (fuel at : ℕ) → Inv fuel at [] → P at [] (wrote [])
     pub dry : (at : ℕ) (b : Branch) (bs : List Branch) → Inv 0 at (b ∷ bs) → P at (b ∷ bs) (noRoom at)
-    pub full : (fuel at : ℕ) (b : Branch) (bs : List Branch) (m : Move) → Inv (suc fuel) at (b ∷ bs) → Does b m → room < at + size (m .chosen) →
+    pub full : (fuel at : ℕ) (b : Branch) (bs : List Branch) (m : Move) → Inv (suc fuel) at (b ∷ bs) → Does b m →
+        room < at + size (m .chosen) →
         P at (b ∷ bs) (noRoom at)
     pub halt : (fuel at : ℕ) (b : Branch) (bs : List Branch) → Inv (suc fuel) at (b ∷ bs) → first I k (candidates I b) b ≡ none →
         P at (b ∷ bs) (stuck b)
-    pub next : (fuel at : ℕ) (b : Branch) (bs : List Branch) (m : Move) → Inv (suc fuel) at (b ∷ bs) → Does b m → at + size (m .chosen) ≤ room →
+    pub next : (fuel at : ℕ) (b : Branch) (bs : List Branch) (m : Move) → Inv (suc fuel) at (b ∷ bs) → Does b m →
+        at + size (m .chosen) ≤ room →
         Inv fuel (at + size (m .chosen)) (m .places ++ bs)
-    pub more : (fuel at : ℕ) (b : Branch) (bs : List Branch) (m : Move) → Inv (suc fuel) at (b ∷ bs) → Does b m → at + size (m .chosen) ≤ room →
+    pub more : (fuel at : ℕ) (b : Branch) (bs : List Branch) (m : Move) → Inv (suc fuel) at (b ∷ bs) → Does b m →
+        at + size (m .chosen) ≤ room →
         (w : Draft) → P (at + size (m .chosen)) (m .places ++ bs) w → P at (b ∷ bs) (also (m .chosen) w)
 
   pub write-kept : (Inv : ℕ → ℕ → List Branch → Type 0) (P : ℕ → List Branch → Draft → Type 0) → Kept Inv P →
@@ -102,7 +110,8 @@ module _ (I : Problem) (k : Claim) (room : ℕ) where
   pub record WroteKept (Inv : List Branch → Type 0) (P : List Branch → List Record → Type 0) : Type 0 where
     pub end : P [] []
     pub next : (b : Branch) (bs : List Branch) (m : Move) → Inv (b ∷ bs) → Chosen I k b m → Inv (m .places ++ bs)
-    pub more : (b : Branch) (bs : List Branch) (m : Move) → Inv (b ∷ bs) → Chosen I k b m → (rs : List Record) → P (m .places ++ bs) rs →
+    pub more : (b : Branch) (bs : List Branch) (m : Move) → Inv (b ∷ bs) → Chosen I k b m → (rs : List Record) →
+        P (m .places ++ bs) rs →
         P (b ∷ bs) (m .chosen ∷ rs)
 
   abbrev OnWrote : (List Record → Type 0) → Draft → Type 0
@@ -122,13 +131,14 @@ module _ (I : Problem) (k : Claim) (room : ℕ) where
         more = λ fuel at b bs m h d l. one-more b bs m h (d .move);
       }) fuel at bs h)
     where
-      one-more : (b : Branch) (bs : List Branch) (m : Move) → Inv (b ∷ bs) → Chosen I k b m → (w : Draft) → OnWrote (P (m .places ++ bs)) w →
+      one-more : (b : Branch) (bs : List Branch) (m : Move) → Inv (b ∷ bs) → Chosen I k b m → (w : Draft) →
+          OnWrote (P (m .places ++ bs)) w →
           OnWrote (P (b ∷ bs)) (also (m .chosen) w)
       one-more b bs m h c (wrote rs) p = unfold also in (K .more b bs m h c rs p)
       one-more b bs m h c (noRoom at) p = unfold also in tt
       one-more b bs m h c (stuck d) p = unfold also in tt
 
-  -- ---- What Write has written is accepted, whatever the claim, with exactly its count.
+  -- ---- "Check must accept it": what Write has written is accepted, whatever the claim, with exactly its count.
   pub write-accepted : (fuel at : ℕ) (bs : List Branch) (rs : List Record) → writeFrom I k fuel room at bs ≡ wrote rs →
       (p n : ℕ) → walk I k (map whole rs) p n bs ≡ Accepted k (n + length rs)
   write-accepted fuel at bs rs e = wrote-kept (λ bs. Unit {0}) Taken (record {
@@ -140,7 +150,7 @@ module _ (I : Problem) (k : Claim) (room : ℕ) where
       Taken : List Branch → List Record → Type 0
       Taken bs rs = (p n : ℕ) → walk I k (map whole rs) p n bs ≡ Accepted k (n + length rs)
 
-  -- ---- What is written fits the room, and 21 tells no more bytes than the room has.
+  -- ---- What is written fits the room, and the place of 21, "bytes written so far", is within it.
   abbrev pub Roomed : ℕ → Draft → Type 0
   Roomed at (wrote rs) = at + bytesOf rs ≤ room
   Roomed at (noRoom a) = (at ≤ a) × (a ≤ room)
@@ -161,8 +171,9 @@ module _ (I : Problem) (k : Claim) (room : ℕ) where
       one-more at r (noRoom a) h = unfold also in (omega arith)
       one-more at r (stuck b) h = unfold also in tt
 
-  -- ---- Fuel never decides: with more than the bytes left Write does the same.
-  pub fuel-enough : (f g at : ℕ) (bs : List Branch) → at ≤ room → room < at + f → room < at + g → writeFrom I k f room at bs ≡ writeFrom I k g room at bs
+  -- ---- "A fuel of more than the bytes left never runs out": Write does the same with any other.
+  pub fuel-enough : (f g at : ℕ) (bs : List Branch) → at ≤ room → room < at + f → room < at + g →
+      writeFrom I k f room at bs ≡ writeFrom I k g room at bs
   fuel-enough f g at bs l u v = write-kept (λ f at bs. (at ≤ room) × (room < at + f)) Same (record {
     end = λ f at h. none-open at;
     dry = λ at b bs h. absurd (omega arith);
@@ -179,15 +190,20 @@ module _ (I : Problem) (k : Claim) (room : ℕ) where
       none-open at zero v = unfold writeFrom in refl
       none-open at (suc g) v = unfold writeFrom in refl
 
-      no-room : (at : ℕ) (b : Branch) (bs : List Branch) (m : Move) → at ≤ room → Does b m → room < at + size (m .chosen) → Same at (b ∷ bs) (noRoom at)
+      no-room : (at : ℕ) (b : Branch) (bs : List Branch) (m : Move) → at ≤ room → Does b m → room < at + size (m .chosen) →
+          Same at (b ∷ bs) (noRoom at)
       no-room at b bs m h d l zero v = absurd (omega arith)
       no-room at b bs m h d l (suc g) v = unfold writeFrom in (rw (d .least, lt-leb (at + size (m .chosen)) room l, writeFrom))
 
-      halted : (at : ℕ) (b : Branch) (bs : List Branch) → at ≤ room → first I k (candidates I b) b ≡ none → Same at (b ∷ bs) (stuck b)
+      halted : (at : ℕ) (b : Branch) (bs : List Branch) → at ≤ room → first I k (candidates I b) b ≡ none →
+          Same at (b ∷ bs) (stuck b)
       halted at b bs h e zero v = absurd (omega arith)
       halted at b bs h e (suc g) v = unfold writeFrom in (rw (e, writeFrom))
 
       one-more : (at : ℕ) (b : Branch) (bs : List Branch) (m : Move) → at ≤ room → Does b m → at + size (m .chosen) ≤ room →
           (w : Draft) → Same (at + size (m .chosen)) (m .places ++ bs) w → Same at (b ∷ bs) (also (m .chosen) w)
       one-more at b bs m h d l w q zero v = absurd (omega arith)
-      one-more at b bs m h d l w q (suc g) v = unfold writeFrom in (rw (d .least, le-leb (at + size (m .chosen)) room l, writeFrom) (ap (also (m .chosen)) (q g (omega (arith, size-some (m .chosen))))))
+      one-more at b bs m h d l w q (suc g) v =
+          unfold writeFrom in (
+          rw (d .least, le-leb (at + size (m .chosen)) room l, writeFrom)
+          (ap (also (m .chosen)) (q g (omega (arith, size-some (m .chosen))))))
