@@ -15,7 +15,7 @@ use Rattle.instance.specs.Clause.{Problem}
 use Rattle.instance.specs.Theorems.Memory.{cleared-beyond}
 use Rattle.reader.specs.Reading.{read, refused, readOf}
 use Rattle.valuation.specs.Value.{valued, valueOf}
-use Rattle.valuation.specs.Better.{beats, chosen, betterOf, Handed, BetterAnswers}
+use Rattle.valuation.specs.Better.{beats, chosen, betterOf, Handed, chosenWith, BetterAnswers}
 use Rattle.valuation.specs.declared.choosing.Choice.{Choice}
 use Rattle.valuation.specs.declared.choosing.Choice.the-variants.{First, Second, Neither}
 
@@ -63,13 +63,13 @@ better-read text first second I e = rw (e, valueOf)
 -- ---- the part and the store
 module _ (text : List ℕ) (first second : RefT (List ℕ)) (store : List ℕ) (part : RefT (List ℕ)) where
   pub handed-small : length store < storeSize → Handed Neither first second part → BetterAnswers text first second store part store
-  unfolding ample returned
-  handed-small h p = record { answer = rw (lt-leb storeSize (length store) h) p; after = rw (lt-leb storeSize (length store) h, returned) }
+  unfolding chosenWith ample returned
+  handed-small h p = record { answer = rw (lt-leb storeSize (length store) h, chosenWith) p; after = rw (lt-leb storeSize (length store) h, returned) }
 
   pub handed-by : (c d : Choice) (store₁ store₂ : List ℕ) → storeSize ≤ length store → c ≡ betterOf text (first .now) (second .now) → c ≡ d → Handed d first second part →
       drop storeSize store₁ ≡ drop storeSize store → store₂ ≡ cleared storeSize store₁ → BetterAnswers text first second store part store₂
-  unfolding ample returned
+  unfolding chosenWith ample returned
   handed-by c d store₁ store₂ h e q p f g = record {
-    answer = rw (le-leb storeSize (length store) h, ← e, q) p;
+    answer = rw (le-leb storeSize (length store) h, chosenWith, ← e, q) p;
     after = g ∙ cleared-beyond storeSize store₁ store f ∙ rw (le-leb storeSize (length store) h, returned);
   }

@@ -32,7 +32,11 @@ Handed First first second part = part ≡ first
 Handed Second first second part = part ≡ second
 Handed Neither first second part = (part .ptr ≡ first .ptr) × (part .now ≡ [])
 
--- the part and the store on return, the store too small included
+-- a store too small is a refusal too
+unfoldable pub chosenWith : List ℕ → List ℕ → List ℕ → List ℕ → Choice
+chosenWith store text first second = elim (ample storeSize store) [ true ↦ betterOf text first second | false ↦ Neither ]
+
+-- the part and the store on return
 pub record BetterAnswers (text : List ℕ) (first second : RefT (List ℕ)) (store : List ℕ) (part : RefT (List ℕ)) (store′ : List ℕ) : Type 0 where
-  pub answer : Handed (elim (ample storeSize store) [ true ↦ betterOf text (first .now) (second .now) | false ↦ Neither ]) first second part
+  pub answer : Handed (chosenWith store text (first .now) (second .now)) first second part
   pub after : store′ ≡ returned (ample storeSize store) storeSize store

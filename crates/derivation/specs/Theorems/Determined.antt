@@ -10,7 +10,7 @@ use Rattle.instance.specs.declared.answers.Valued.{Valued}
 use Rattle.instance.specs.declared.answers.Written.{Written}
 use Rattle.reader.specs.Survey.{SurveyAnswers}
 use Rattle.valuation.specs.Value.{ValueAnswers}
-use Rattle.valuation.specs.Better.{Handed, BetterAnswers}
+use Rattle.valuation.specs.Better.{Handed, chosenWith, BetterAnswers}
 use Rattle.valuation.specs.declared.choosing.Choice.{Choice}
 use Rattle.valuation.specs.declared.choosing.Choice.the-variants.{First, Second, Neither}
 use Rattle.derivation.specs.Check.{Desk, CheckAnswers}
@@ -32,7 +32,9 @@ handed-same Neither first second p q h k = (h .0 ∙ sym (k .0), h .1 ∙ sym (k
 
 pub better-determined : {text : List ℕ} {first second : RefT (List ℕ)} {store : List ℕ} {p q : RefT (List ℕ)} {s s′ : List ℕ} →
     BetterAnswers text first second store p s → BetterAnswers text first second store q s′ → (p .ptr ≡ q .ptr) × (p .now ≡ q .now) × (s ≡ s′)
-better-determined h k = let r = handed-same _ _ _ _ _ (h .answer) (k .answer) in (r .0, r .1, h .after ∙ sym (k .after))
+better-determined {text} {first} {second} {store} {p} {q} h k =
+    let r = handed-same (chosenWith store text (first .now) (second .now)) first second p q (h .answer) (k .answer) in
+    (r .0, r .1, h .after ∙ sym (k .after))
 
 pub check-determined : {text bytes proof : List ℕ} {lent : Desk} {r r′ : Checked} {d d′ : Desk} →
     CheckAnswers text bytes proof lent r d → CheckAnswers text bytes proof lent r′ d′ → (r ≡ r′) × (d ≡ d′)
