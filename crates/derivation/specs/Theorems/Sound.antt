@@ -26,7 +26,7 @@ use Rattle.calculus.specs.Theorems.Broken.{first-broken}
 use Rattle.calculus.specs.Theorems.Sound.{sound}
 use Rattle.calculus.specs.Theorems.Walked.{accepted-counted}
 use Rattle.derivation.specs.Bytes.{claimSize, claimAt, items}
-use Rattle.derivation.specs.Check.{followed, shown, claimed, checkOf}
+use Rattle.derivation.specs.Check.{followed, shown, claimed, checkOf, Desk, roomy, CheckAnswers}
 use Rattle.derivation.specs.Demands.{Meant}
 
 module _ (text bytes proof : List ℕ) (I : Problem) (reads : readOf text ≡ read I) where
@@ -98,3 +98,11 @@ accepted-meant text bytes proof = by-reading (readOf text) refl
     ])
     by-reading (refused n p) e = tt
     by-reading (read I) e = by-claim I e (claimAt proof)
+
+-- The same at the contract: whatever memory was lent, and whatever the answer.
+pub answers-meant : {text bytes proof : List ℕ} {lent : Desk} {r : Checked} {later : Desk} → CheckAnswers text bytes proof lent r later → Meant text bytes r
+answers-meant {text} {bytes} {proof} {lent} h = subst (Meant text bytes) (sym (h .answer)) (by (roomy lent))
+  where
+    by : (t : Bool) → Meant text bytes (elim t as (λ _. Checked) [ true ↦ checkOf text bytes proof | false ↦ Refused (staged 1 0) ])
+    by true = accepted-meant text bytes proof
+    by false = tt
