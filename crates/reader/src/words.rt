@@ -1,14 +1,14 @@
 use crate::numbers::Number;
 use crate::numbers::read_number;
 use instance::Instance;
+ghost use mathlib.Core.List.{List};
 ghost use mathlib.Core.Path.{_≡_};
 ghost use Prim.Native.Nat.{_+_, _*_, _<_, _≤_};
 ghost use lib.ListN.{length};
 ghost use Rattle.instance.specs.Limits.{mostWeight};
-ghost use Rattle.instance.specs.Clause.{Problem};
+ghost use Rattle.instance.specs.Clause.{Clause, totalOf};
 ghost use Rattle.instance.specs.Store.{literalOf};
 ghost use Rattle.reader.specs.Words.{alone, weightSpelled, signed, firstWord, laterWord};
-ghost use Rattle.reader.specs.Survey.{counts};
 ghost use Rattle.reader.specs.Said.{spelledAs, openingSays, literalSays, wordSays};
 
 // A weight that is rightly spelled: its code in the store (0 is hard), and whether it is out of the limits.
@@ -49,7 +49,10 @@ fn weight_spelled(t: &[u8]) -> Spelled
     ensures { λ r. ⌜ r ≡ spelledAs (weightSpelled (now (t .entry))) ⌝ }
 {
     if is_alone(t, b'h') {
-        return Spelled::Right(Weight { code: 0, out: false });
+        return Spelled::Right(Weight {
+            code: 0,
+            out: false,
+        });
     }
     if is_alone(t, b'0') {
         return Spelled::Right(Weight { code: 0, out: true });
@@ -65,20 +68,20 @@ fn weight_spelled(t: &[u8]) -> Spelled
 }
 
 // Spelling, clause count, weight, total: in this order.
-pub fn first_word(t: &[u8], counted: Instance) -> Opening
-    requires { ⌜ counted .total ≤ mostWeight ⌝ }
-    ensures { λ r. ⌜ ((I : Problem) → counted ≡ counts I → openingSays r ≡ firstWord (I .clauses) (now (t .entry))) ⌝ }
+pub fn first_word(t: &[u8], clauses: usize, total: u64) -> Opening
+    requires { ⌜ total ≤ mostWeight ⌝ }
+    ensures { λ r. ⌜ ((cs : List Clause) → clauses ≡ length cs → total ≡ totalOf cs → openingSays r ≡ firstWord cs (now (t .entry))) ⌝ }
 {
     let Spelled::Right(weight) = weight_spelled(t) else {
         return Opening::Fault(2);
     };
-    if Instance::CLAUSES <= counted.clauses {
+    if Instance::CLAUSES <= clauses {
         return Opening::Fault(4);
     }
     if weight.out {
         return Opening::Fault(5);
     }
-    if Instance::WEIGHT < counted.total + weight.code {
+    if Instance::WEIGHT < total + weight.code {
         return Opening::Fault(6);
     }
     Opening::Weight(weight.code)

@@ -1,22 +1,32 @@
--- Each answer is what `firstWord` says of a weight so spelled, after the clauses of an instance that counts so.
-use mathlib.Core.Path.{_≡_, sym, ap, _∙_}
+-- Each answer is what `firstWord` says of a weight so spelled, after clauses cs of that number and total.
+use Prim.Native.Nat.{ℕ}
+use mathlib.Core.List.{List}
+use mathlib.Core.Path.{_≡_, sym, ap, ap₂, _∙_}
 use native.Mathlib.Omega.{arith}
 use borrow.Author.Needs.{needs}
-use Rattle.instance.specs.Clause.{Problem}
-use Rattle.instance.specs.declared.Instance.{Instance}
+use lib.ListN.{length}
+use Rattle.instance.specs.Clause.{Clause, totalOf}
 use Rattle.reader.specs.Words.{firstWord}
-use Rattle.reader.specs.Survey.{counts}
 use Rattle.reader.specs.declared.words.Spelled.{Spelled}
+use Rattle.reader.specs.declared.words.Weight as declared
 use Rattle.reader.proofs.Says.{firstBy, first-many, first-out, first-over, first-weighs, first-says, spelled-light}
 use Rattle.reader.proofs.words.first_word.Statement.{statement}
 use Rattle.reader.proofs.words.first_word.Tie as tie
 
-by-spelling : (c : tie.After-weight-spelled) (I : Problem) → c .before .before .args .counted ≡ counts I → (s : Spelled) → c .weight-spelled .result ≡ s → firstBy (c .before .before .args .counted .clauses) (c .before .before .args .counted .total) s ≡ firstWord (I .clauses) (c .before .before .args .t .now)
-unfolding counts
-by-spelling c I e s f =
-    ap (λ (k : Instance). firstBy (k .clauses) (k .total) s) e
-    ∙ ap (firstBy _ _) (sym f ∙ c .weight-spelled .ensures)
-    ∙ sym (first-says (I .clauses) _ (rw e at (c .before .before .pre)))
+by-spelling : (c : tie.After-weight-spelled) (cs : List Clause) → c .before .before .args .clauses ≡ length cs → c .before .before .args .total ≡ totalOf cs → (s : Spelled) → c .weight-spelled .result ≡ s
+    → firstBy (c .before .before .args .clauses) (c .before .before .args .total) s ≡ firstWord cs (c .before .before .args .t .now)
+by-spelling c cs k m s e =
+    ap₂ (λ (a b : ℕ). firstBy a b s) k m
+    ∙ ap (firstBy (length cs) (totalOf cs)) (sym e ∙ c .weight-spelled .ensures)
+    ∙ sym (first-says cs _ (rw m at (c .before .before .pre)))
+
+-- the weight that is rightly spelled
+abbrev weightOf : tie.After-known-told → declared.Weight
+weightOf c = c .before .weight .given .0 .0
+
+by-weight : (c : tie.After-known-told) (cs : List Clause) → c .before .before .before .before .before .args .clauses ≡ length cs → c .before .before .before .before .before .args .total ≡ totalOf cs
+    → firstBy (c .before .before .before .before .before .args .clauses) (c .before .before .before .before .before .args .total) (Spelled.Right (weightOf c)) ≡ firstWord cs (c .before .before .before .before .before .args .t .now)
+by-weight c cs k m = by-spelling (c .before .before .before) cs k m (Spelled.Right (weightOf c)) (c .before .weight .given .1)
 
 weight-spelled-requires : tie.Need-weight-spelled-requires
 weight-spelled-requires c κs = search needs
@@ -28,45 +38,33 @@ enum-told : tie.Need-enum-told
 enum-told c = search needs
 
 returns : tie.Need-returns
-returns c I e = by-spelling (c .before .before) I e _ (c .enum-told .given .1)
+returns c cs k m = by-spelling (c .before .before) cs k m _ (c .enum-told .given .1)
 
 returns-2 : tie.Need-returns-2
-returns-2 c I e =
-    let spelling = c .before .before .before .before .before in
-    let k = spelling .before .before .args .counted in
-    let w = c .before .before .before .weight .given in
-    first-many (k .clauses) (k .total) (w .0 .0) (c .if1 .taken) ∙ by-spelling spelling I e _ (w .1)
+returns-2 c cs k m = first-many _ _ (weightOf (c .before)) (c .if1 .taken) ∙ by-weight (c .before) cs k m
 
 returns-3 : tie.Need-returns-3
-returns-3 c I e =
+returns-3 c cs k m =
     let few = c .before in
-    let w = few .before .before .before .weight .given in
-    let spelling = few .before .before .before .before .before in
-    let k = spelling .before .before .args .counted in
-    first-out (k .clauses) (k .total) (w .0 .0) (few .if1 .left) (c .if2 .taken) ∙ by-spelling spelling I e _ (w .1)
+    first-out _ _ (weightOf (few .before)) (few .if1 .left) (c .if2 .taken) ∙ by-weight (few .before) cs k m
 
 add-if3 : tie.Need-add-if3
 add-if3 c =
-    let few = c .before .before .before in
-    let w = few .before .before .before .weight .given in
-    let spelling = few .before .before .before .before .before in
-    omega (arith, spelled-light _ (w .0 .0) (sym (spelling .weight-spelled .ensures) ∙ w .1), spelling .before .before .pre)
+    let w = c .before .before .before in
+    let spelling = w .before .before .before in
+    omega (arith, spelled-light _ (weightOf w) (sym (spelling .weight-spelled .ensures) ∙ w .before .weight .given .1), spelling .before .before .pre)
 
 returns-4 : tie.Need-returns-4
-returns-4 c I e =
-    let few = c .before .before .before .before in
-    let w = few .before .before .before .weight .given in
-    let spelling = few .before .before .before .before .before in
-    let k = spelling .before .before .args .counted in
-    first-over (k .clauses) (k .total) (w .0 .0) (few .if1 .left) (c .before .before .before .if2 .left) (c .if3 .taken) ∙ by-spelling spelling I e _ (w .1)
+returns-4 c cs k m =
+    let fits = c .before .before in
+    let few = fits .before in
+    first-over _ _ (weightOf (few .before)) (few .if1 .left) (fits .if2 .left) (c .if3 .taken) ∙ by-weight (few .before) cs k m
 
 returns-5 : tie.Need-returns-5
-returns-5 c I e =
-    let few = c .before .before .before .before in
-    let w = few .before .before .before .weight .given in
-    let spelling = few .before .before .before .before .before in
-    let k = spelling .before .before .args .counted in
-    first-weighs (k .clauses) (k .total) (w .0 .0) (few .if1 .left) (c .before .before .before .if2 .left) (c .if3 .left) ∙ by-spelling spelling I e _ (w .1)
+returns-5 c cs k m =
+    let fits = c .before .before in
+    let few = fits .before in
+    first-weighs _ _ (weightOf (few .before)) (few .if1 .left) (fits .if2 .left) (c .if3 .left) ∙ by-weight (few .before) cs k m
 
 pub first-word-spec : {M : Type 1} → statement M
 first-word-spec =
