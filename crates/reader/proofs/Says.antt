@@ -52,16 +52,22 @@ number-below limit t v e =
     (on-test (Below limit) (spelled t) (λ _. on-test (Below limit) (leb (decimal t) limit) (λ h. leb-true (decimal t) limit h) (λ _. tt)) (λ _. tt))
 
 -- ---- a weight
+abbrev within : ℕ → declared.Weight
+within w = record { code = w; out = false }
+
+abbrev outOf : declared.Weight
+outOf = record { code = 0; out = true }
+
 abbrev pub spelledBy : Number → Spelled
-spelledBy (Number.Value w) = Spelled.Right (declared.Weight.Soft w)
-spelledBy Number.Over = Spelled.Right declared.Weight.Out
+spelledBy (Number.Value w) = Spelled.Right (within w)
+spelledBy Number.Over = Spelled.Right outOf
 spelledBy Number.Misspelled = Spelled.Wrong
 
-soft-out : (w : ℕ) → (eqb w 0 || ltb mostWeight w) ≡ true → spelledAs (some (soft w)) ≡ Spelled.Right declared.Weight.Out
+soft-out : (w : ℕ) → (eqb w 0 || ltb mostWeight w) ≡ true → spelledAs (some (soft w)) ≡ Spelled.Right outOf
 unfolding spelledAs
 soft-out w e = rw (e, spelledAs)
 
-soft-in : (w : ℕ) → 1 ≤ w → w ≤ mostWeight → spelledAs (some (soft w)) ≡ Spelled.Right (declared.Weight.Soft w)
+soft-in : (w : ℕ) → 1 ≤ w → w ≤ mostWeight → spelledAs (some (soft w)) ≡ Spelled.Right (within w)
 unfolding spelledAs
 soft-in w h l = rw (ne-eqb w 0 (λ e. omega arith), le-ltb mostWeight w l, spelledAs)
 
@@ -72,7 +78,7 @@ zero-worth (b ∷ []) e = omega (arith, eqb-true b zeroDigit e)
 zero-worth (b ∷ d ∷ bs) e = never (sym e)
 
 module _ (t : List ℕ) where
-  pub spells-hard : alone letterH t ≡ true → Spelled.Right declared.Weight.Hard ≡ spelledAs (weightSpelled t)
+  pub spells-hard : alone letterH t ≡ true → Spelled.Right (within 0) ≡ spelledAs (weightSpelled t)
   unfolding weightSpelled spelledAs
   spells-hard e = rw (e, weightSpelled)
 
@@ -85,7 +91,7 @@ module _ (t : List ℕ) where
     unfolding weightSpelled
     weight-none e = rw (other, e, weightSpelled)
 
-    pub spells-zero : alone zeroDigit t ≡ true → Spelled.Right declared.Weight.Out ≡ spelledAs (weightSpelled t)
+    pub spells-zero : alone zeroDigit t ≡ true → Spelled.Right outOf ≡ spelledAs (weightSpelled t)
     spells-zero e =
         sym (ap spelledAs (weight-number (rw e (or-true (spelled t))))
         ∙ soft-out (decimal t) (rw (zero-worth t e)))
@@ -104,25 +110,22 @@ module _ (t : List ℕ) where
             (sym (ap spelledAs (weight-number (rw f)) ∙ soft-out (decimal t) (rw (lt-ltb mostWeight (decimal t) (leb-false (decimal t) mostWeight g)) (or-true (eqb (decimal t) 0)))))
 
 abbrev Light : Spelled → Type 0
-Light (Spelled.Right declared.Weight.Hard) = Unit {0}
-Light (Spelled.Right (declared.Weight.Soft w)) = w ≤ mostWeight
-Light (Spelled.Right declared.Weight.Out) = Unit {0}
+Light (Spelled.Right w) = w .code ≤ mostWeight
 Light Spelled.Wrong = Unit {0}
 
-pub spelled-light : (o : Option Weight) (w : ℕ) → spelledAs o ≡ Spelled.Right (declared.Weight.Soft w) → w ≤ mostWeight
+pub spelled-light : (o : Option Weight) (w : declared.Weight) → spelledAs o ≡ Spelled.Right w → w .code ≤ mostWeight
 unfolding spelledAs
 spelled-light o w e = subst Light e (go o)
   where
     go : (o : Option Weight) → Light (spelledAs o)
     go none = tt
-    go (some hard) = tt
-    go (some (soft v)) = on-test Light (eqb v 0 || ltb mostWeight v) (λ _. tt) (λ h. ltb-false mostWeight v (neither (eqb v 0) (ltb mostWeight v) h .1))
+    go (some hard) = omega arith
+    go (some (soft v)) =
+        on-test Light (eqb v 0 || ltb mostWeight v) (λ _. omega arith) (λ h. ltb-false mostWeight v (neither (eqb v 0) (ltb mostWeight v) h .1))
 
--- ---- a first token
-abbrev pub weighedBy : ℕ → declared.Weight → First
-weighedBy total declared.Weight.Hard = weighs hard
-weighedBy total declared.Weight.Out = badFirst 5
-weighedBy total (declared.Weight.Soft w) = elim (ltb mostWeight (total + w)) [ true ↦ badFirst 6 | false ↦ weighs (weightOf w) ]
+-- ---- a first token, after k clauses of a total weight
+abbrev weighedBy : ℕ → declared.Weight → First
+weighedBy total w = elim (w .out) [ true ↦ badFirst 5 | false ↦ elim (ltb mostWeight (total + w .code)) [ true ↦ badFirst 6 | false ↦ weighs (weightOf (w .code)) ] ]
 
 abbrev pub firstBy : ℕ → ℕ → Spelled → First
 firstBy k total Spelled.Wrong = badFirst 2
@@ -132,39 +135,43 @@ module _ (k total : ℕ) (w : declared.Weight) where
   pub first-many : mostClauses ≤ k → badFirst 4 ≡ firstBy k total (Spelled.Right w)
   first-many h = rw (le-leb mostClauses k h, firstBy)
 
-  pub first-few : k < mostClauses → weighedBy total w ≡ firstBy k total (Spelled.Right w)
-  first-few h = rw (lt-leb mostClauses k h, firstBy)
+  module _ (few : k < mostClauses) where
+    first-few : {f : First} → f ≡ weighedBy total w → f ≡ firstBy k total (Spelled.Right w)
+    first-few e = rw (lt-leb mostClauses k few, firstBy) e
 
-pub total-over : (total w : ℕ) → mostWeight < total + w → badFirst 6 ≡ weighedBy total (declared.Weight.Soft w)
-total-over total w h = rw (lt-ltb mostWeight (total + w) h, weighedBy)
+    pub first-out : w .out ≡ true → badFirst 5 ≡ firstBy k total (Spelled.Right w)
+    first-out e = first-few (rw (e, weighedBy))
 
-pub total-within : (total w : ℕ) → total + w ≤ mostWeight → weighs (weightOf w) ≡ weighedBy total (declared.Weight.Soft w)
-total-within total w h = rw (le-ltb mostWeight (total + w) h, weighedBy)
+    pub first-over : w .out ≡ false → mostWeight < total + w .code → badFirst 6 ≡ firstBy k total (Spelled.Right w)
+    first-over e h = first-few (rw (e, lt-ltb mostWeight (total + w .code) h, weighedBy))
+
+    pub first-weighs : w .out ≡ false → total + w .code ≤ mostWeight → weighs (weightOf (w .code)) ≡ firstBy k total (Spelled.Right w)
+    first-weighs e h = first-few (rw (e, le-ltb mostWeight (total + w .code) h, weighedBy))
 
 -- a weight that is rightly spelled, as the code has it
 abbrev Weighing : List Clause → Weight → Type 0
 Weighing cs w = (d : declared.Weight) × (spelledAs (some w) ≡ Spelled.Right d) × (weighed cs w ≡ weighedBy (totalOf cs) d)
 
-weighing : (cs : List Clause) (w : Weight) → Weighing cs w
+weighing : (cs : List Clause) → totalOf cs ≤ mostWeight → (w : Weight) → Weighing cs w
 unfolding weighed spelledAs weightOf
-weighing cs hard = (declared.Weight.Hard, refl, refl)
-weighing cs (soft zero) = (declared.Weight.Out, refl, refl)
-weighing cs (soft (suc w)) = go (ltb mostWeight (suc w)) refl (ne-eqb (suc w) 0 (λ e. omega arith))
+weighing cs light hard = (within 0, refl, rw (le-ltb mostWeight (totalOf cs + 0) (omega arith), weighedBy))
+weighing cs light (soft zero) = (outOf, refl, refl)
+weighing cs light (soft (suc w)) = go (ltb mostWeight (suc w)) refl (ne-eqb (suc w) 0 (λ e. omega arith))
   where
     go : (b : Bool) → ltb mostWeight (suc w) ≡ b → eqb (suc w) 0 ≡ false → Weighing cs (soft (suc w))
-    go true e f = (declared.Weight.Out, rw (e, f, spelledAs), rw (e, f, weighed))
-    go false e f = (declared.Weight.Soft (suc w), rw (e, f, spelledAs), rw (e, f, weighed))
+    go true e f = (outOf, rw (e, f, spelledAs), rw (e, f, weighed))
+    go false e f = (within (suc w), rw (e, f, spelledAs), rw (e, f, weighed))
 
-pub first-says : (cs : List Clause) (t : List ℕ) → firstWord cs t ≡ firstBy (length cs) (totalOf cs) (spelledAs (weightSpelled t))
+pub first-says : (cs : List Clause) (t : List ℕ) → totalOf cs ≤ mostWeight → firstWord cs t ≡ firstBy (length cs) (totalOf cs) (spelledAs (weightSpelled t))
 unfolding firstWord spelledAs
-first-says cs t = go (weightSpelled t)
+first-says cs t light = go (weightSpelled t)
   where
     counted : First → First
     counted f = elim (leb mostClauses (length cs)) [ true ↦ badFirst 4 | false ↦ f ]
 
     go : (o : Option Weight) → elim o as (λ _. First) [ none ↦ badFirst 2 | some w ↦ counted (weighed cs w) ] ≡ firstBy (length cs) (totalOf cs) (spelledAs o)
     go none = refl
-    go (some w) = let (d, e, f) = weighing cs w in ap counted f ∙ sym (ap (firstBy (length cs) (totalOf cs)) e)
+    go (some w) = let (d, e, f) = weighing cs light w in ap counted f ∙ sym (ap (firstBy (length cs) (totalOf cs)) e)
 
 -- ---- a literal
 abbrev pub literalBy : ℕ → (ℕ → Literal) → Number → Later

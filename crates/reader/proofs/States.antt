@@ -9,7 +9,7 @@ use lib.Dec.{eqb}
 use lib.ListN.{length, getD, take, drop, set, length-set}
 use lib.Seq.{drop-cons, drop-set-lt}
 use Rattle.instance.specs.Limits.{mostClauses, mostLiterals, mostWeight}
-use Rattle.instance.specs.Clause.{Literal, Weight, Clause, Problem, variableOf, occurs, opposite, keptWith, tautology}
+use Rattle.instance.specs.Clause.{Literal, Weight, Clause, Problem, variableOf, occurs, opposite, keptWith, tautology, totalOf}
 use Rattle.instance.specs.Memory.{storeSize}
 use Rattle.instance.specs.Refusals.{staged}
 use Rattle.instance.specs.Store.{weightsAt, flagsAt, literalsAt, literalOf, weightOf, flagOf, Stored}
@@ -156,12 +156,16 @@ module _ {text before store : List ℕ} {counted : Instance} {kept i : ℕ} (b :
         rw e (at-line (past inLine text end) (past-within inLine text end (t .within))
         (token-goes t (between I) some (skipping I) (λ e ts. rw (is-comment ∙ eq-eqb (getD text at 0) letterC c, lineRead)) ∙ skip-line I text end))
 
-    module _ (plain : getD text at 0 ≡ letterC → ⊥) (r : Opening) (says : (J : Problem) → counted ≡ counts J → openingSays r ≡ firstWord (J .clauses) (tok .bytes)) where
+    module _ (plain : getD text at 0 ≡ letterC → ⊥) (r : Opening) (says : (cs : List Clause) → counted .clauses ≡ length cs → counted .total ≡ totalOf cs → openingSays r ≡ firstWord cs (tok .bytes)) where
       no-comment : comment (tok .bytes) ≡ false
       no-comment = is-comment ∙ ne-eqb (getD text at 0) letterC plain
 
       first-is : {f : First} → openingSays r ≡ f → firstWord (I .clauses) (tok .bytes) ≡ f
-      first-is e = sym (says I (b .counts-to)) ∙ e
+      unfolding counts
+      first-is e =
+          let clauses : counted .clauses ≡ length (I .clauses) = ap (λ (k : Instance). k .clauses) (b .counts-to) in
+          let total : counted .total ≡ totalOf (I .clauses) = ap (λ (k : Instance). k .total) (b .counts-to) in
+          sym (says (I .clauses) clauses total) ∙ e
 
       pub first-stops : {n : ℕ} → r ≡ Opening.Fault n → readOf text ≡ refused n at
       unfolding lineRead

@@ -10,7 +10,6 @@ use Rattle.instance.specs.Store.{literalOf, weightOf}
 use Rattle.reader.specs.Numbers.{spelled, decimal}
 use Rattle.reader.specs.Words.{First, weighs, badFirst, Later, ends, holds, badLater}
 use Rattle.reader.specs.declared.numbers.Number.{Number}
-use Rattle.reader.specs.declared.words.Weight as declared
 use Rattle.reader.specs.declared.words.Spelled.{Spelled}
 use Rattle.reader.specs.declared.words.Opening.{Opening}
 use Rattle.reader.specs.declared.words.Word.{Word}
@@ -26,11 +25,11 @@ numberOf limit t =
 -- a weight's spelling, with 5 foreseen
 unfoldable pub spelledAs : Option Weight → Spelled
 spelledAs none = Spelled.Wrong
-spelledAs (some hard) = Spelled.Right declared.Weight.Hard
+spelledAs (some hard) = Spelled.Right (record { code = 0; out = false })
 spelledAs (some (soft w)) =
     elim (eqb w 0 || ltb mostWeight w) [
-      | true ↦ Spelled.Right declared.Weight.Out
-      | false ↦ Spelled.Right (declared.Weight.Soft w)
+      | true ↦ Spelled.Right (record { code = 0; out = true })
+      | false ↦ Spelled.Right (record { code = w; out = false })
     ]
 
 abbrev pub openingSays : Opening → First

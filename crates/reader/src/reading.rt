@@ -47,7 +47,7 @@ pub fn read(text: &[u8], store: &mut [u64]) -> Surveyed
             i = past_line(text, end);
             continue 'text;
         }
-        let weight = match first_word(&text[at..end], counted) {
+        let weight = match first_word(&text[at..end], counted.clauses, counted.total) {
             Opening::Weight(code) => code,
             Opening::Fault(number) => break 'text refused(number, at),
         };

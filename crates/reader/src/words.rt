@@ -1,21 +1,20 @@
 use crate::numbers::Number;
 use crate::numbers::read_number;
 use instance::Instance;
+ghost use mathlib.Core.List.{List};
 ghost use mathlib.Core.Path.{_≡_};
 ghost use Prim.Native.Nat.{_+_, _*_, _<_, _≤_};
 ghost use lib.ListN.{length};
 ghost use Rattle.instance.specs.Limits.{mostWeight};
-ghost use Rattle.instance.specs.Clause.{Problem};
+ghost use Rattle.instance.specs.Clause.{Clause, totalOf};
 ghost use Rattle.instance.specs.Store.{literalOf};
 ghost use Rattle.reader.specs.Words.{alone, weightSpelled, signed, firstWord, laterWord};
-ghost use Rattle.reader.specs.Survey.{counts};
 ghost use Rattle.reader.specs.Said.{spelledAs, openingSays, literalSays, wordSays};
 
-// A weight that is rightly spelled: hard, soft, or soft and out of the limits.
-pub enum Weight {
-    Hard,
-    Soft(u64),
-    Out,
+// A weight that is rightly spelled: its code in the store (0 is hard), and whether it is out of the limits.
+pub struct Weight {
+    pub code: u64,
+    pub out: bool,
 }
 
 pub enum Spelled {
@@ -23,13 +22,13 @@ pub enum Spelled {
     Wrong,
 }
 
-// What a clause's first token says: its weight in the store's code, or a refusal's number.
+// What a clause's first token says: its weight's code, or a refusal's number.
 pub enum Opening {
     Weight(u64),
     Fault(u64),
 }
 
-// What a later token says: the clause's end, a literal in the store's code, or a refusal's number.
+// What a later token says: the clause's end, a literal's code in the store, or a refusal's number.
 pub enum Word {
     End,
     Literal(u64),
@@ -50,39 +49,42 @@ fn weight_spelled(t: &[u8]) -> Spelled
     ensures { λ r. ⌜ r ≡ spelledAs (weightSpelled (now (t .entry))) ⌝ }
 {
     if is_alone(t, b'h') {
-        return Spelled::Right(Weight::Hard);
+        return Spelled::Right(Weight {
+            code: 0,
+            out: false,
+        });
     }
     if is_alone(t, b'0') {
-        return Spelled::Right(Weight::Out);
+        return Spelled::Right(Weight { code: 0, out: true });
     }
     match read_number(t, Instance::WEIGHT) {
-        Number::Value(w) => Spelled::Right(Weight::Soft(w)),
-        Number::Over => Spelled::Right(Weight::Out),
+        Number::Value(w) => Spelled::Right(Weight {
+            code: w,
+            out: false,
+        }),
+        Number::Over => Spelled::Right(Weight { code: 0, out: true }),
         Number::Misspelled => Spelled::Wrong,
     }
 }
 
 // Spelling, clause count, weight, total: in this order.
-pub fn first_word(t: &[u8], counted: Instance) -> Opening
-    requires { ⌜ counted .total ≤ mostWeight ⌝ }
-    ensures { λ r. ⌜ ((I : Problem) → counted ≡ counts I → openingSays r ≡ firstWord (I .clauses) (now (t .entry))) ⌝ }
+pub fn first_word(t: &[u8], clauses: usize, total: u64) -> Opening
+    requires { ⌜ total ≤ mostWeight ⌝ }
+    ensures { λ r. ⌜ ((cs : List Clause) → clauses ≡ length cs → total ≡ totalOf cs → openingSays r ≡ firstWord cs (now (t .entry))) ⌝ }
 {
     let Spelled::Right(weight) = weight_spelled(t) else {
         return Opening::Fault(2);
     };
-    if Instance::CLAUSES <= counted.clauses {
+    if Instance::CLAUSES <= clauses {
         return Opening::Fault(4);
     }
-    match weight {
-        Weight::Hard => Opening::Weight(0),
-        Weight::Out => Opening::Fault(5),
-        Weight::Soft(w) => {
-            if Instance::WEIGHT < counted.total + w {
-                return Opening::Fault(6);
-            }
-            Opening::Weight(w)
-        }
+    if weight.out {
+        return Opening::Fault(5);
     }
+    if Instance::WEIGHT < total + weight.code {
+        return Opening::Fault(6);
+    }
+    Opening::Weight(weight.code)
 }
 
 // A literal's variable, and 1 for the opposite. Spelling, variable, literal count: in this order.
