@@ -1,0 +1,2 @@
+-- The laws that the branch keeps for its callers.
+pub mod Stored
