@@ -82,15 +82,20 @@ module _ (log : List ℕ) (top place old : ℕ) (room : 2 * top + 1 < length log
       ∙ getD-set-other log (2 * top) k place 0 (λ e. omega arith)
 
 -- ---- runs of stores
-pub later-none : (cells log : List ℕ) (top : ℕ) → Later cells log top cells log top
-later-none cells log top = record {
+-- the log above the height does not matter
+pub later-log : (cells log log′ : List ℕ) (top : ℕ) → length log′ ≡ length log → ((k : ℕ) → k < 2 * top → getD log′ k 0 ≡ getD log k 0)
+    → Later cells log top cells log′ top
+later-log cells log log′ top same below = record {
   higher = omega arith;
   same-cells = refl;
-  same-log = refl;
-  below = λ k lt. refl;
-  undoes = rewound-none cells log top;
+  same-log = same;
+  below = below;
+  undoes = rewound-none cells log′ top;
   places = λ e lo hi. absurd (omega arith);
 }
+
+pub later-none : (cells log : List ℕ) (top : ℕ) → Later cells log top cells log top
+later-none cells log top = later-log cells log log top refl (λ k lt. refl)
 
 module _ (cells log : List ℕ) (top place value : ℕ) (lt : place < length cells) (room : 2 * top + 1 < length log) where
   cells′ : List ℕ

@@ -1,0 +1,3 @@
+// The walk over a derivation: its records, the extensions with branches still to visit, and the answer.
+mod frames;
+mod records;
