@@ -1,3 +1,4 @@
 pub mod Decoding
 pub mod Frames
 pub mod Walking
+pub mod Moves

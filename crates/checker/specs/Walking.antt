@@ -23,10 +23,10 @@ pub record Walk (I : Problem) (store cells log frames : List ℕ) (top depth : �
   pub places : Places log 0 top (length cells)
   pub stack : Stack depth I store frames cells log top bs
 
--- the memory stands for some list of open branches, of an instance of n variables
-abbrev pub Standing : ℕ → List ℕ → List ℕ → List ℕ → List ℕ → ℕ → ℕ → Type 0
-Standing n store cells log frames top depth =
-    (I : Problem) × (b : Branch) × (bs : List Branch) × (n ≡ I .variables) × Walk I store cells log frames top depth b bs
+-- the memory stands for some list of open branches, of an instance of that kind
+abbrev pub Standing : (Problem → Type 0) → List ℕ → List ℕ → List ℕ → List ℕ → ℕ → ℕ → Type 0
+Standing Of store cells log frames top depth =
+    (I : Problem) × (b : Branch) × (bs : List Branch) × Of I × Walk I store cells log frames top depth b bs
 
 -- ---- an extension of the clause at k
 abbrev pub Extending : List ℕ → List ℕ → List ℕ → List ℕ → ℕ → ℕ → ℕ → Type 0
