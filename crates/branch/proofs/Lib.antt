@@ -1,0 +1,10 @@
+pub mod Literals
+pub mod Places
+pub mod Stores
+pub mod Clauses
+pub mod Changes
+pub mod Readings
+pub mod Rules
+pub mod Extending
+pub mod Contradicting
+pub mod Rooting

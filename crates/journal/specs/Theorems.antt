@@ -1,0 +1,2 @@
+-- The laws that the journal keeps for its callers.
+pub mod Stores
