@@ -2,6 +2,7 @@
 mod answers;
 mod memory;
 mod refusals;
+mod store;
 mod workspaces;
 
 pub use answers::Aim;
@@ -13,6 +14,9 @@ pub use answers::Written;
 pub use memory::clear;
 pub use refusals::Stage;
 pub use refusals::refusal;
+pub use store::FLAGS_AT;
+pub use store::LITERALS_AT;
+pub use store::WEIGHTS_AT;
 pub use workspaces::CELLS;
 pub use workspaces::FOUND;
 pub use workspaces::FRAMES;

@@ -59,7 +59,8 @@ unfolding decimal
 read-none t limit = record { within = omega arith; held = omega arith; digits = refl; worth = refl }
 
 module _ {t : List ℕ} {limit value i : ℕ} (r : ReadTo t limit value i) where
-  pub read-more : i < length t → digit (getD t i 0) ≡ true → (v : ℕ) → v ≡ min (10 * value + (getD t i 0 - zeroDigit)) (limit + 1) → ReadTo t limit v (i + 1)
+  pub read-more : i < length t → digit (getD t i 0) ≡ true → (v : ℕ)
+      → v ≡ min (10 * value + (getD t i 0 - zeroDigit)) (limit + 1) → ReadTo t limit v (i + 1)
   unfolding valueFrom
   read-more h e v f =
       record {

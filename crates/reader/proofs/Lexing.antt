@@ -86,7 +86,8 @@ lines-blanks p (b ∷ bs) = go (blank b) refl (lines-blanks (suc p) bs)
 abbrev tokenOf : ℕ → List ℕ → Token
 tokenOf p bytes = record { place = p; bytes = bytes }
 
-push-widened : (p b q : ℕ) (xs : List ℕ) (ls : List Line) → onFirst (widened p b) (push (tokenOf q xs) ls) ≡ push (tokenOf p (b ∷ xs)) ls
+push-widened : (p b q : ℕ) (xs : List ℕ) (ls : List Line)
+    → onFirst (widened p b) (push (tokenOf q xs) ls) ≡ push (tokenOf p (b ∷ xs)) ls
 unfolding onFirst widened
 push-widened p b q xs [] = refl
 push-widened p b q xs (l ∷ ls) = refl
@@ -101,7 +102,8 @@ unfolding span startsInToken
 no-token [] e = refl
 no-token (b ∷ bs) e = span-stop inToken b bs e
 
-lines-token : (p : ℕ) (bs : List ℕ) → startsInToken bs ≡ true → lines p bs ≡ push (tokenOf p (take (span inToken bs) bs)) (lines (p + span inToken bs) (drop (span inToken bs) bs))
+lines-token : (p : ℕ) (bs : List ℕ) → startsInToken bs ≡ true
+    → lines p bs ≡ push (tokenOf p (take (span inToken bs) bs)) (lines (p + span inToken bs) (drop (span inToken bs) bs))
 unfolding startsInToken
 lines-token p [] h = never (sym h)
 lines-token p (b ∷ bs) h = go (startsInToken bs) refl (lines-token (suc p) bs)

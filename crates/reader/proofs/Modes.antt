@@ -47,13 +47,15 @@ text-lines I (l ∷ ls) = refl
 -- ---- at a token, the line goes on in another mode, or reading stops
 module _ {text : List ℕ} {i at end : ℕ} (t : TokenAt text i at end) (m : Mode) where
   module _ (some : at < end) where
-    pub token-goes : (m′ : Mode) → ((e : ℕ) (ts : List Token) → onLine m e (found t ∷ ts) ≡ onLine m′ e ts) → onText m (from text i) ≡ onText m′ (from text end)
+    pub token-goes : (m′ : Mode) → ((e : ℕ) (ts : List Token) → onLine m e (found t ∷ ts) ≡ onLine m′ e ts)
+        → onText m (from text i) ≡ onText m′ (from text end)
     unfolding onFirst
     token-goes m′ h =
         let (l, ls, e) = lines-some end (drop end text) in
         rw (from-token t some, e) (ap (λ (r : Reading). andThen r ls) (h (l .end) (l .tokens)))
 
-    pub token-stops : (n p : ℕ) → ((e : ℕ) (ts : List Token) → onLine m e (found t ∷ ts) ≡ refused n p) → onText m (from text i) ≡ refused n p
+    pub token-stops : (n p : ℕ) → ((e : ℕ) (ts : List Token) → onLine m e (found t ∷ ts) ≡ refused n p)
+        → onText m (from text i) ≡ refused n p
     unfolding onFirst
     token-stops n p h =
         let (l, ls, e) = lines-some end (drop end text) in
@@ -88,7 +90,8 @@ module _ (I : Problem) where
   skip-first f [] = refl
   skip-first f (l ∷ ls) = refl
 
-  skip-byte : (p b : ℕ) (bs : List ℕ) → inLine b ≡ true → onText (skipping I) (lines p (b ∷ bs)) ≡ onText (skipping I) (lines (suc p) bs)
+  skip-byte : (p b : ℕ) (bs : List ℕ) → inLine b ≡ true
+      → onText (skipping I) (lines p (b ∷ bs)) ≡ onText (skipping I) (lines (suc p) bs)
   unfolding lines inLine
   skip-byte p b bs h =
       on-test Same (eqb b lineFeed) (λ e. never (sym e ∙ not-true (eqb b lineFeed) h)) λ _.
@@ -98,12 +101,14 @@ module _ (I : Problem) where
       Same : List Line → Type 0
       Same ls = onText (skipping I) ls ≡ onText (skipping I) (lines (suc p) bs)
 
-  skip-bytes : (p : ℕ) (bs : List ℕ) → onText (skipping I) (lines p bs) ≡ onText (skipping I) (lines (p + span inLine bs) (drop (span inLine bs) bs))
+  skip-bytes : (p : ℕ) (bs : List ℕ)
+      → onText (skipping I) (lines p bs) ≡ onText (skipping I) (lines (p + span inLine bs) (drop (span inLine bs) bs))
   unfolding span
   skip-bytes p [] = rw add-zero
   skip-bytes p (b ∷ bs) = go (inLine b) refl (skip-bytes (suc p) bs)
     where
-      go : (t : Bool) → inLine b ≡ t → onText (skipping I) (lines (suc p) bs) ≡ onText (skipping I) (lines (suc p + span inLine bs) (drop (span inLine bs) bs))
+      go : (t : Bool) → inLine b ≡ t
+          → onText (skipping I) (lines (suc p) bs) ≡ onText (skipping I) (lines (suc p + span inLine bs) (drop (span inLine bs) bs))
           → onText (skipping I) (lines p (b ∷ bs)) ≡ onText (skipping I) (lines (p + span inLine (b ∷ bs)) (drop (span inLine (b ∷ bs)) (b ∷ bs)))
       go true e h =
           let n : p + suc (span inLine bs) ≡ suc p + span inLine bs = omega arith in
@@ -116,7 +121,8 @@ module _ (I : Problem) where
   skip-end p (b ∷ bs) h =
       rw (lines-feed p b bs (not-false (eqb b lineFeed) (span-none inLine b bs h)))
 
-  pub skip-line : (text : List ℕ) (i : ℕ) → onText (skipping I) (from text i) ≡ onText (between I) (from text (past inLine text i))
+  pub skip-line : (text : List ℕ) (i : ℕ)
+      → onText (skipping I) (from text i) ≡ onText (between I) (from text (past inLine text i))
   skip-line text i =
       let rest = drop-drop (span inLine (drop i text)) i text in
       skip-bytes i (drop i text)

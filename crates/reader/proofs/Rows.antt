@@ -66,7 +66,8 @@ rows-none store room = record {
 }
 
 -- ---- a store outside of what is read
-part-kept : (store : List ℕ) (base m j v : ℕ) → (j < base) ⊎ (base + m ≤ j) → take m (drop base (set store j v)) ≡ take m (drop base store)
+part-kept : (store : List ℕ) (base m j v : ℕ) → (j < base) ⊎ (base + m ≤ j)
+    → take m (drop base (set store j v)) ≡ take m (drop base store)
 part-kept store base m j v (inl h) = ap (take m) (drop-set-lt base store j v h)
 part-kept store base m j v (inr h) =
     let e : j ≡ base + (j - base) = omega arith in
@@ -84,7 +85,8 @@ record Apart (K j : ℕ) : Type 0 where
 abbrev Beside : ℕ → ℕ → Type 0
 Beside kept j = (j < literalsAt) ⊎ (literalsAt + kept ≤ j)
 
-clauses-same : (store later : List ℕ) (K : ℕ) → ((k : ℕ) → k < K → clauseIn later k ≡ clauseIn store k) → clausesIn later K ≡ clausesIn store K
+clauses-same : (store later : List ℕ) (K : ℕ) → ((k : ℕ) → k < K → clauseIn later k ≡ clauseIn store k)
+    → clausesIn later K ≡ clausesIn store K
 unfolding clausesIn
 clauses-same store later zero h = refl
 clauses-same store later (suc K) h = rw (clauses-same store later K (λ k l. h k (omega arith)), h K (omega arith))
@@ -142,7 +144,8 @@ codes-grown store start kept code h room =
     let more : kept + 1 - start ≡ suc (kept - start) = omega arith in
     rw (place, more, drop-set-add) (take-suc-set (drop (literalsAt + start) store) (kept - start) code (omega (arith, length-drop (literalsAt + start) store)))
 
-pub row-begun : {store : List ℕ} {n : ℕ} {cs : List Clause} {kept : ℕ} → Rows store n cs kept → length cs < mostClauses → (w : ℕ)
+pub row-begun : {store : List ℕ} {n : ℕ} {cs : List Clause} {kept : ℕ} → Rows store n cs kept → length cs < mostClauses
+    → (w : ℕ)
     → Row (set (set store (weightsAt + length cs) w) (flagsAt + length cs) 0) n cs kept kept (weightOf w) 0 []
 row-begun {store} {n} {cs} {kept} r few w =
     let K = length cs in
@@ -194,17 +197,23 @@ module _ {store : List ℕ} {n : ℕ} {cs : List Clause} {start kept : ℕ} {w :
         literals = ap (map literalOf) same ∙ r .literals;
       }
 
-  pub row-coded : (code : ℕ) → kept < mostLiterals → Coded n code → Row (set store (literalsAt + kept) code) n cs start (kept + 1) w f (ls ++ (literalOf code ∷ []))
+  pub row-coded : (code : ℕ) → kept < mostLiterals → Coded n code
+      → Row (set store (literalsAt + kept) code) n cs start (kept + 1) w f (ls ++ (literalOf code ∷ []))
   row-coded code h p =
       let K = length cs in
       let grown = codes-grown store start kept code (r .order) (omega (arith, r .rows .laid .room)) in
       record {
-        rows = rows-set (r .rows) (literalsAt + kept) code (omega (arith, r .rows .laid .few)) (inr (omega (arith, r .order)));
+        rows =
+            rows-set (r .rows) (literalsAt + kept) code (omega (arith, r .rows .laid .few)) (inr (omega (arith, r .order)));
         order = omega (arith, r .order);
-        weight = ap weightOf (getD-set-other store (literalsAt + kept) (weightsAt + K) code 0 (λ e. omega arith)) ∙ r .weight;
+        weight =
+            ap weightOf (getD-set-other store (literalsAt + kept) (weightsAt + K) code 0 (λ e. omega arith))
+            ∙ r .weight;
         flag = getD-set-other store (literalsAt + kept) (flagsAt + K) code 0 (λ e. omega arith) ∙ r .flag;
         codes = rw grown (every-snoc (Coded n) (codesFrom store start kept) code (r .codes) p);
-        literals = ap (map literalOf) grown ∙ map-append literalOf (codesFrom store start kept) (code ∷ []) ∙ ap (λ (ks : List Literal). ks ++ (literalOf code ∷ [])) (r .literals);
+        literals =
+            ap (map literalOf) grown ∙ map-append literalOf (codesFrom store start kept) (code ∷ [])
+            ∙ ap (λ (ks : List Literal). ks ++ (literalOf code ∷ [])) (r .literals);
       }
 
 module _ {store : List ℕ} {n : ℕ} {cs : List Clause} {start kept : ℕ} {w : Weight} {ls : List Literal} (r : Row store n cs start kept w (flagOf (tautology ls)) ls) (few : length cs < mostClauses) (l : kept ≤ mostLiterals) where

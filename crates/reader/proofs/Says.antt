@@ -100,7 +100,8 @@ module _ (t : List ℕ) where
     unfolding numberOf spelledAs
     spells-number e = go (spelled t) (leb (decimal t) mostWeight) refl refl
       where
-        go : (a b : Bool) → spelled t ≡ a → leb (decimal t) mostWeight ≡ b → spelledBy (numberOf mostWeight t) ≡ spelledAs (weightSpelled t)
+        go : (a b : Bool) → spelled t ≡ a → leb (decimal t) mostWeight ≡ b
+            → spelledBy (numberOf mostWeight t) ≡ spelledAs (weightSpelled t)
         go false b f g = rw (f, numberOf) (sym (ap spelledAs (weight-none (rw (f, e)))))
         go true true f g =
             rw (f, g, numberOf)
@@ -145,7 +146,8 @@ module _ (k total : ℕ) (w : declared.Weight) where
     pub first-over : w .out ≡ false → mostWeight < total + w .code → badFirst 6 ≡ firstBy k total (Spelled.Right w)
     first-over e h = first-few (rw (e, lt-ltb mostWeight (total + w .code) h, weighedBy))
 
-    pub first-weighs : w .out ≡ false → total + w .code ≤ mostWeight → weighs (weightOf (w .code)) ≡ firstBy k total (Spelled.Right w)
+    pub first-weighs : w .out ≡ false → total + w .code ≤ mostWeight
+        → weighs (weightOf (w .code)) ≡ firstBy k total (Spelled.Right w)
     first-weighs e h = first-few (rw (e, le-ltb mostWeight (total + w .code) h, weighedBy))
 
 -- a weight that is rightly spelled, as the code has it
@@ -162,14 +164,16 @@ weighing cs light (soft (suc w)) = go (ltb mostWeight (suc w)) refl (ne-eqb (suc
     go true e f = (outOf, rw (e, f, spelledAs), rw (e, f, weighed))
     go false e f = (within (suc w), rw (e, f, spelledAs), rw (e, f, weighed))
 
-pub first-says : (cs : List Clause) (t : List ℕ) → totalOf cs ≤ mostWeight → firstWord cs t ≡ firstBy (length cs) (totalOf cs) (spelledAs (weightSpelled t))
+pub first-says : (cs : List Clause) (t : List ℕ) → totalOf cs ≤ mostWeight
+    → firstWord cs t ≡ firstBy (length cs) (totalOf cs) (spelledAs (weightSpelled t))
 unfolding firstWord spelledAs
 first-says cs t light = go (weightSpelled t)
   where
     counted : First → First
     counted f = elim (leb mostClauses (length cs)) [ true ↦ badFirst 4 | false ↦ f ]
 
-    go : (o : Option Weight) → elim o as (λ _. First) [ none ↦ badFirst 2 | some w ↦ counted (weighed cs w) ] ≡ firstBy (length cs) (totalOf cs) (spelledAs o)
+    go : (o : Option Weight)
+        → elim o as (λ _. First) [ none ↦ badFirst 2 | some w ↦ counted (weighed cs w) ] ≡ firstBy (length cs) (totalOf cs) (spelledAs o)
     go none = refl
     go (some w) = let (d, e, f) = weighing cs light w in ap counted f ∙ sym (ap (firstBy (length cs) (totalOf cs)) e)
 
@@ -179,25 +183,30 @@ literalBy written sign Number.Misspelled = badLater 2
 literalBy written sign Number.Over = badLater 7
 literalBy written sign (Number.Value x) = elim (leb mostLiterals written) [ true ↦ badLater 8 | false ↦ holds (sign x) ]
 
-pub literal-many : (written : ℕ) (sign : ℕ → Literal) (x : ℕ) → mostLiterals ≤ written → badLater 8 ≡ literalBy written sign (Number.Value x)
+pub literal-many : (written : ℕ) (sign : ℕ → Literal) (x : ℕ) → mostLiterals ≤ written
+    → badLater 8 ≡ literalBy written sign (Number.Value x)
 literal-many written sign x h = rw (le-leb mostLiterals written h, literalBy)
 
-pub literal-few : (written : ℕ) (sign : ℕ → Literal) (x : ℕ) → written < mostLiterals → holds (sign x) ≡ literalBy written sign (Number.Value x)
+pub literal-few : (written : ℕ) (sign : ℕ → Literal) (x : ℕ) → written < mostLiterals
+    → holds (sign x) ≡ literalBy written sign (Number.Value x)
 literal-few written sign x h = rw (lt-leb mostLiterals written h, literalBy)
 
 literal-over : (written : ℕ) (l : Literal) → mostVariables < variableOf l → literalSays written (some l) ≡ badLater 7
 unfolding literalSays
 literal-over written l h = rw (lt-ltb mostVariables (variableOf l) h, literalSays)
 
-literal-within : (written : ℕ) (l : Literal) → variableOf l ≤ mostVariables → literalSays written (some l) ≡ elim (leb mostLiterals written) as (λ _. Later) [ true ↦ badLater 8 | false ↦ holds l ]
+literal-within : (written : ℕ) (l : Literal) → variableOf l ≤ mostVariables
+    → literalSays written (some l) ≡ elim (leb mostLiterals written) as (λ _. Later) [ true ↦ badLater 8 | false ↦ holds l ]
 unfolding literalSays
 literal-within written l h = rw (le-ltb mostVariables (variableOf l) h, literalSays)
 
-pub literal-says : (written : ℕ) (sign : ℕ → Literal) (t : List ℕ) → ((x : ℕ) → variableOf (sign x) ≡ x) → literalSays written (signed sign t) ≡ literalBy written sign (numberOf mostVariables t)
+pub literal-says : (written : ℕ) (sign : ℕ → Literal) (t : List ℕ) → ((x : ℕ) → variableOf (sign x) ≡ x)
+    → literalSays written (signed sign t) ≡ literalBy written sign (numberOf mostVariables t)
 unfolding numberOf signed literalSays
 literal-says written sign t v = go (spelled t) (leb (decimal t) mostVariables) refl refl
   where
-    go : (a b : Bool) → spelled t ≡ a → leb (decimal t) mostVariables ≡ b → literalSays written (signed sign t) ≡ literalBy written sign (numberOf mostVariables t)
+    go : (a b : Bool) → spelled t ≡ a → leb (decimal t) mostVariables ≡ b
+        → literalSays written (signed sign t) ≡ literalBy written sign (numberOf mostVariables t)
     go false b f g = rw (f, numberOf, signed)
     go true true f g = rw (f, g, numberOf, signed) (literal-within written (sign (decimal t)) (omega (arith, v (decimal t), leb-true (decimal t) mostVariables g)))
     go true false f g = rw (f, g, numberOf, signed) (literal-over written (sign (decimal t)) (omega (arith, v (decimal t), leb-false (decimal t) mostVariables g)))
@@ -213,7 +222,8 @@ coded sign x = literalOf (2 * x + sign)
 signed-as : (f g : ℕ → Literal) (t : List ℕ) → ((x : ℕ) → f x ≡ g x) → signed f t ≡ signed g t
 signed-as f g t h = ap (λ (sign : ℕ → Literal). signed sign t) (fun-ext h)
 
-spelled-minus : (t : List ℕ) → 0 < length t → getD t 0 0 ≡ minus → literalSpelled t ≡ signed (coded 1) (take (length t - 1) (drop 1 t))
+spelled-minus : (t : List ℕ) → 0 < length t → getD t 0 0 ≡ minus
+    → literalSpelled t ≡ signed (coded 1) (take (length t - 1) (drop 1 t))
 unfolding literalSpelled codeOf
 spelled-minus [] h e = absurd (omega arith)
 spelled-minus (b ∷ bs) h e =
@@ -237,7 +247,8 @@ module _ (written : ℕ) (t : List ℕ) where
     unfolding laterWord literalSays
     later-literal = rw (more, laterWord)
 
-    pub later-minus : getD t 0 0 ≡ minus → literalSays written (signed (coded 1) (take (length t - 1) (drop 1 t))) ≡ laterWord written t
+    pub later-minus : getD t 0 0 ≡ minus
+        → literalSays written (signed (coded 1) (take (length t - 1) (drop 1 t))) ≡ laterWord written t
     later-minus e = sym (later-literal ∙ ap (literalSays written) (spelled-minus t some e))
 
     pub later-plain : (getD t 0 0 ≡ minus → ⊥) → literalSays written (signed (coded 0) t) ≡ laterWord written t

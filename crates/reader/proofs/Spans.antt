@@ -38,7 +38,8 @@ module _ (kind : ℕ → Bool) where
   span-after [] = refl
   span-after (b ∷ bs) = go (kind b) refl (span-after bs)
     where
-      go : (t : Bool) → kind b ≡ t → span kind (drop (span kind bs) bs) ≡ 0 → span kind (drop (span kind (b ∷ bs)) (b ∷ bs)) ≡ 0
+      go : (t : Bool) → kind b ≡ t → span kind (drop (span kind bs) bs) ≡ 0
+          → span kind (drop (span kind (b ∷ bs)) (b ∷ bs)) ≡ 0
       go true e h = rw (span-more b bs e) h
       go false e h = rw (span-stop b bs e) (span-stop b bs e)
 
@@ -76,7 +77,8 @@ pub record TokenAt (text : List ℕ) (from at end : ℕ) : Type 0 where
   pub order : at ≤ end
   pub within : end ≤ length text
 
-pub token-found : {text : List ℕ} {from at end : ℕ} → from ≤ length text → at ≡ past blank text from → end ≡ past inToken text at → TokenAt text from at end
+pub token-found : {text : List ℕ} {from at end : ℕ} → from ≤ length text → at ≡ past blank text from
+    → end ≡ past inToken text at → TokenAt text from at end
 token-found {text} {from} {at} {end} h e f =
     record {
       starts = e;
@@ -86,5 +88,6 @@ token-found {text} {from} {at} {end} h e f =
       within = omega (arith, past-within inToken text at (omega (arith, past-within blank text from h)));
     }
 
-pub token-some : {text : List ℕ} {from at end : ℕ} → TokenAt text from at end → at < end → 0 < length (take (end - at) (drop at text))
+pub token-some : {text : List ℕ} {from at end : ℕ} → TokenAt text from at end → at < end
+    → 0 < length (take (end - at) (drop at text))
 token-some {text} {from} {at} {end} t h = omega (arith, t, length-take (end - at) (drop at text), length-drop at text)

@@ -44,14 +44,17 @@ lent-set {before} {store} l j v h = record {
   beyond = drop-set-lt storeSize store j v h ∙ l .beyond;
 }
 
-pub lent-begun : {before store begun : List ℕ} {clause : ℕ} (w : ℕ) → Lent before store → clause < mostClauses → begun ≡ set (set store (weightsAt + clause) w) (flagsAt + clause) 0 → Lent before begun
-lent-begun {clause = clause} w l h e = rw e (lent-set (lent-set l (weightsAt + clause) w (omega arith)) (flagsAt + clause) 0 (omega arith))
+pub lent-begun : {before store begun : List ℕ} {clause : ℕ} (w : ℕ) → Lent before store → clause < mostClauses
+    → begun ≡ set (set store (weightsAt + clause) w) (flagsAt + clause) 0 → Lent before begun
+lent-begun {clause = clause} w l h e =
+    rw e (lent-set (lent-set l (weightsAt + clause) w (omega arith)) (flagsAt + clause) 0 (omega arith))
 
 pub lent-then : {before between store : List ℕ} → Lent before between → Lent between store → Lent before store
 lent-then k l = record { long = l .long ∙ k .long; beyond = l .beyond ∙ k .beyond }
 
 -- ---- the promise, of each way out
-pub refuses : {text before store : List ℕ} {n p : ℕ} → readOf text ≡ refused n p → Lent before store → ReadAnswers text before (Surveyed.Refused (staged n p)) store
+pub refuses : {text before store : List ℕ} {n p : ℕ} → readOf text ≡ refused n p → Lent before store
+    → ReadAnswers text before (Surveyed.Refused (staged n p)) store
 unfolding surveyOf
 refuses {n = n} {p = p} e l = record {
   answer = rw (e, surveyOf);
@@ -60,7 +63,8 @@ refuses {n = n} {p = p} e l = record {
   long = l .long;
 }
 
-pub accepts : {text before store : List ℕ} {counted : Instance} (I : Problem) → readOf text ≡ read I → counted ≡ counts I → Stored store I → Lent before store → ReadAnswers text before (Surveyed.Counted counted) store
+pub accepts : {text before store : List ℕ} {counted : Instance} (I : Problem) → readOf text ≡ read I → counted ≡ counts I
+    → Stored store I → Lent before store → ReadAnswers text before (Surveyed.Counted counted) store
 unfolding surveyOf
 accepts {store = store} I e c s l = record {
   answer = rw (e, surveyOf) (ap Surveyed.Counted c);
@@ -80,7 +84,8 @@ pub record Between (text before store : List ℕ) (counted : Instance) (kept i :
   pub lent : Lent before store
   pub goes : readOf text ≡ onText (between I) (from text i)
 
-pub begins : (text store : List ℕ) (counted : Instance) → counted ≡ counts nothing → storeSize ≤ length store → Between text store store counted 0 0
+pub begins : (text store : List ℕ) (counted : Instance) → counted ≡ counts nothing → storeSize ≤ length store
+    → Between text store store counted 0 0
 unfolding readOf nothing
 begins text store counted e room = record {
   I = nothing;
@@ -107,7 +112,8 @@ pub record Inside (text before : List ℕ) (i₀ : ℕ) (store : List ℕ) (coun
   pub lent : Lent before store
   pub goes : readOf text ≡ onText (inside I (weightOf weight) ls) (from text i)
 
-pub light : {text before store : List ℕ} {counted : Instance} {kept i : ℕ} → Between text before store counted kept i → counted .total ≤ mostWeight
+pub light : {text before store : List ℕ} {counted : Instance} {kept i : ℕ} → Between text before store counted kept i
+    → counted .total ≤ mostWeight
 unfolding counts
 light b = rw (b .counts-to) (b .sound .within .light)
 
@@ -115,7 +121,8 @@ module _ {text before store : List ℕ} {counted : Instance} {kept i : ℕ} (b :
   abbrev I : Problem
   I = b .I
 
-  at-line : (j : ℕ) → j ≤ length text → onText (between I) (from text i) ≡ onText (between I) (from text j) → Between text before store counted kept j
+  at-line : (j : ℕ) → j ≤ length text → onText (between I) (from text i) ≡ onText (between I) (from text j)
+      → Between text before store counted kept j
   at-line j h e = record {
     I = I;
     counts-to = b .counts-to;
@@ -150,7 +157,8 @@ module _ {text before store : List ℕ} {counted : Instance} {kept i : ℕ} (b :
     unfolding comment
     is-comment = ap comment first-byte
 
-    pub comment-line : getD text at 0 ≡ letterC → (j : ℕ) → j ≡ past inLine text end → Between text before store counted kept j
+    pub comment-line : getD text at 0 ≡ letterC → (j : ℕ) → j ≡ past inLine text end
+        → Between text before store counted kept j
     unfolding lineRead
     comment-line c j e =
         rw e (at-line (past inLine text end) (past-within inLine text end (t .within))
@@ -169,16 +177,20 @@ module _ {text before store : List ℕ} {counted : Instance} {kept i : ℕ} (b :
 
       pub first-stops : {n : ℕ} → r ≡ Opening.Fault n → readOf text ≡ refused n at
       unfolding lineRead
-      first-stops {n} e = b .goes ∙ token-stops t (between I) some n at (λ e′ ts. rw (no-comment, first-is (ap openingSays e), lineRead))
+      first-stops {n} e =
+          b .goes
+          ∙ token-stops t (between I) some n at (λ e′ ts. rw (no-comment, first-is (ap openingSays e), lineRead))
 
       weight-opens : {w : ℕ} → r ≡ Opening.Weight w → Opens (I .clauses) (weightOf w)
-      weight-opens {w} e = first-taken (I .clauses) (tok .bytes) (weightOf w) (b .sound .within .light) (first-is (ap openingSays e))
+      weight-opens {w} e =
+          first-taken (I .clauses) (tok .bytes) (weightOf w) (b .sound .within .light) (first-is (ap openingSays e))
 
       pub clause-fits : {w : ℕ} → r ≡ Opening.Weight w → counted .clauses < mostClauses
       unfolding counts
       clause-fits e = rw (b .counts-to) (weight-opens e .fewer)
 
-      pub clause-opens : {w clause : ℕ} {begun : List ℕ} → r ≡ Opening.Weight w → clause ≡ counted .clauses → begun ≡ set (set store (weightsAt + clause) w) (flagsAt + clause) 0
+      pub clause-opens : {w clause : ℕ} {begun : List ℕ} → r ≡ Opening.Weight w → clause ≡ counted .clauses
+          → begun ≡ set (set store (weightsAt + clause) w) (flagsAt + clause) 0
           → Inside text begun end begun counted kept end w clause kept
       unfolding lineRead counts flagOf tautology
       clause-opens {w} {clause} {begun} e k s =
@@ -195,7 +207,9 @@ module _ {text before store : List ℕ} {counted : Instance} {kept i : ℕ} (b :
             further = omega arith;
             here = t .within;
             lent = record { long = refl; beyond = refl };
-            goes = b .goes ∙ token-goes t (between I) some (inside I (weightOf w) []) (λ e′ ts. rw (no-comment, f, lineRead));
+            goes =
+                b .goes
+                ∙ token-goes t (between I) some (inside I (weightOf w) []) (λ e′ ts. rw (no-comment, f, lineRead));
           }
 
 -- ---- one more literal
@@ -213,10 +227,13 @@ module _ {before store : List ℕ} {n : ℕ} {cs : List Clause} {start kept : �
   has : (k : Literal) {answer : Bool} → occurs k (literalsFrom store start kept) ≡ answer → occurs k ls ≡ answer
   has k e = ap (occurs k) (sym (r .literals)) ∙ e
 
-  new-row : {after : List ℕ} → Row after n cs start (kept + 1) w (flagOf (occurs (opposite l) ls || tautology ls)) (ls ++ (l ∷ [])) → Lent before after → occurs l ls ≡ false → Grown before after n cs start (kept + 1) (suc written) w (keptWith ls l)
+  new-row : {after : List ℕ}
+      → Row after n cs start (kept + 1) w (flagOf (occurs (opposite l) ls || tautology ls)) (ls ++ (l ∷ []))
+      → Lent before after → occurs l ls ≡ false → Grown before after n cs start (kept + 1) (suc written) w (keptWith ls l)
   new-row row k e = rw (kept-new ls l e) (record { row = rw (tautology-snoc ls l) row; shorter = omega arith; lent = k })
 
-  grown : {kept′ : ℕ} {store′ : List ℕ} → Kept store (length cs) start kept code kept′ store′ → Grown before store′ n cs start kept′ (suc written) w (keptWith ls l)
+  grown : {kept′ : ℕ} {store′ : List ℕ} → Kept store (length cs) start kept code kept′ store′
+      → Grown before store′ n cs start kept′ (suc written) w (keptWith ls l)
   unfolding flagOf
   grown (again e) = rw (kept-again ls l (has l e)) (record { row = r; shorter = omega arith; lent = lent })
   grown (opposed e f) =
@@ -253,11 +270,15 @@ module _ {text before : List ℕ} {i₀ : ℕ} {store : List ℕ} {counted : Ins
 
     pub word-stops : {n : ℕ} → r ≡ Word.Fault n → readOf text ≡ refused n at
     unfolding clauseFrom
-    word-stops {n} e = a .goes ∙ token-stops t (inside J w (a .ls)) some n at (λ e′ ts. rw (later-is (ap wordSays e), clauseFrom))
+    word-stops {n} e =
+        a .goes
+        ∙ token-stops t (inside J w (a .ls)) some n at (λ e′ ts. rw (later-is (ap wordSays e), clauseFrom))
 
     word-ends : r ≡ Word.End → readOf text ≡ onText (after (withClause J w (a .ls))) (from text end)
     unfolding clauseFrom
-    word-ends e = a .goes ∙ token-goes t (inside J w (a .ls)) some (after (withClause J w (a .ls))) (λ e′ ts. rw (later-is (ap wordSays e), clauseFrom))
+    word-ends e =
+        a .goes
+        ∙ token-goes t (inside J w (a .ls)) some (after (withClause J w (a .ls))) (λ e′ ts. rw (later-is (ap wordSays e), clauseFrom))
 
     -- after the clause's 0: another token, or the line's end
     pub more-stops : {q z : ℕ} → r ≡ Word.End → TokenAt text end q z → q < z → readOf text ≡ refused 2 q
@@ -271,7 +292,8 @@ module _ {text before : List ℕ} {i₀ : ℕ} {store : List ℕ} {counted : Ins
     unfolding counts
     word-fits e = rw (a .counts-to) (word-held e .fewer)
 
-    pub keep-fits : {code : ℕ} → r ≡ Word.Literal code → (clause < mostClauses) × (start ≤ kept) × (kept < mostLiterals) × (storeSize ≤ length store)
+    pub keep-fits : {code : ℕ} → r ≡ Word.Literal code
+        → (clause < mostClauses) × (start ≤ kept) × (kept < mostLiterals) × (storeSize ≤ length store)
     keep-fits e = (inside-fits a, a .row .order, omega (arith, a .shorter, word-held e), a .row .rows .laid .room)
 
     pub clause-grows : {code kept′ : ℕ} {counted′ : Instance} {store′ : List ℕ} → r ≡ Word.Literal code
@@ -295,10 +317,13 @@ module _ {text before : List ℕ} {i₀ : ℕ} {store : List ℕ} {counted : Ins
           further = omega (arith, a .further, t);
           here = t .within;
           lent = grows .lent;
-          goes = a .goes ∙ token-goes t (inside J w (a .ls)) some (inside (withLiteral J l) w (keptWith (a .ls) l)) (λ e′ ts. rw (later-is (ap wordSays e), clauseFrom));
+          goes =
+              a .goes
+              ∙ token-goes t (inside J w (a .ls)) some (inside (withLiteral J l) w (keptWith (a .ls) l)) (λ e′ ts. rw (later-is (ap wordSays e), clauseFrom));
         }
 
-    pub clause-closes : {first : List ℕ} {q z : ℕ} {counted′ : Instance} {store′ : List ℕ} → Lent first store → r ≡ Word.End → TokenAt text end q z → z ≤ q
+    pub clause-closes : {first : List ℕ} {q z : ℕ} {counted′ : Instance} {store′ : List ℕ} → Lent first store → r ≡ Word.End
+        → TokenAt text end q z → z ≤ q
         → ((I : Problem) (ls : List Literal) → counted ≡ counts I → counted′ ≡ counts (withClause I w ls))
         → store′ ≡ set store clause kept → Between text first store′ counted′ kept q
     unfolding ended lineRead withClause
@@ -312,5 +337,7 @@ module _ {text before : List ℕ} {i₀ : ℕ} {store : List ℕ} {counted : Ins
           shorter = a .shorter;
           here = omega (arith, u);
           lent = lent-set held (length (J .clauses)) kept (omega (arith, a .work .opens .fewer));
-          goes = word-ends e ∙ line-goes u (after done) none (between done) refl ∙ ap (onText (between done)) (from-blanks u);
+          goes =
+              word-ends e ∙ line-goes u (after done) none (between done) refl
+              ∙ ap (onText (between done)) (from-blanks u);
         })

@@ -89,7 +89,8 @@ abbrev Opening : List Clause → First → Type 0
 Opening cs (weighs w) = Opens cs w
 Opening cs (badFirst n) = Unit {0}
 
-weighed-opens : (cs : List Clause) (w : Weight) → totalOf cs ≤ mostWeight → length cs < mostClauses → Opening cs (weighed cs w)
+weighed-opens : (cs : List Clause) (w : Weight) → totalOf cs ≤ mostWeight → length cs < mostClauses
+    → Opening cs (weighed cs w)
 unfolding weighed softOf
 weighed-opens cs hard light few = record { fewer = few; lighter = omega arith; weighty = tt }
 weighed-opens cs (soft w) light few =
@@ -105,7 +106,8 @@ first-opens cs t light =
     on-test (Opening cs) (leb mostClauses (length cs)) (λ _. tt) λ f.
     weighed-opens cs w light (leb-false mostClauses (length cs) f)
 
-pub first-taken : (cs : List Clause) (t : List ℕ) (w : Weight) → totalOf cs ≤ mostWeight → firstWord cs t ≡ weighs w → Opens cs w
+pub first-taken : (cs : List Clause) (t : List ℕ) (w : Weight) → totalOf cs ≤ mostWeight → firstWord cs t ≡ weighs w
+    → Opens cs w
 first-taken cs t w light e = subst (Opening cs) e (first-opens cs t light)
 
 -- what a later token was taken for
@@ -224,10 +226,12 @@ abbrev Gives : Reading → Type 0
 Gives (read I) = Sound I
 Gives (refused n p) = Unit {0}
 
-clause-gives : (end : ℕ) (ts : List Token) (I : Problem) (w : Weight) (ls : List Literal) → Open I w ls → Gives (clauseFrom I w ls end ts)
+clause-gives : (end : ℕ) (ts : List Token) (I : Problem) (w : Weight) (ls : List Literal) → Open I w ls
+    → Gives (clauseFrom I w ls end ts)
 unfolding clauseFrom ended
 clause-gives end [] I w ls o = tt
-clause-gives end (t ∷ ts) I w ls o = go (laterWord (I .written) (t .bytes)) (later-holds (I .written) (t .bytes)) (clause-gives end ts)
+clause-gives end (t ∷ ts) I w ls o =
+    go (laterWord (I .written) (t .bytes)) (later-holds (I .written) (t .bytes)) (clause-gives end ts)
   where
     done : (us : List Token) → Gives (ended (withClause I w ls) us)
     done [] = open-clause o

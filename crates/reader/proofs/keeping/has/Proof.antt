@@ -31,7 +31,9 @@ module _ {part : List ℕ} {code i : ℕ} (k : Looked part code i) where
   further h n =
       record {
         within = omega arith;
-        same = k .same ∙ rest-next (occursIn code) part i h ∙ rw (same-literals code (getD part i 0), ne-eqb code (getD part i 0) (λ e. n (sym e)));
+        same =
+            k .same ∙ rest-next (occursIn code) part i h
+            ∙ rw (same-literals code (getD part i 0), ne-eqb code (getD part i 0) (λ e. n (sym e)));
       }
 
   nowhere : length part ≤ i → false ≡ occursIn code part

@@ -9,10 +9,10 @@ use Rattle.reader.proofs.numbers.read_number.Statement.{statement}
 use Rattle.reader.proofs.numbers.read_number.Tie as tie
 
 abbrev Inv-loop : tie.InvT-loop
-Inv-loop t limit value₀ i₀ value i = ReadTo t limit value i
+Inv-loop token limit value₀ i₀ value i = ReadTo token limit value i
 
 abbrev μ-loop : tie.MeasureT-loop
-μ-loop t limit value₀ i₀ value i = length t - i
+μ-loop token limit value₀ i₀ value i = length token - i
 
 returns : tie.Need-returns Inv-loop μ-loop
 returns c = number-misspelled _ _ (spelled-nil _ (c .if1 .taken))
@@ -42,7 +42,8 @@ wide-requires : tie.Need-wide-requires Inv-loop μ-loop
 wide-requires c κs = search needs
 
 add-smaller : tie.Need-add-smaller Inv-loop μ-loop
-add-smaller c = omega (arith, c .before .before .before .shared-slice-known3 .given (c .before .before .before .before .before .loop .i))
+add-smaller c =
+    omega (arith, c .before .before .before .shared-slice-known3 .given (c .before .before .before .before .before .loop .i))
 
 add-smaller-2 : tie.Need-add-smaller-2 Inv-loop μ-loop
 add-smaller-2 c = search needs

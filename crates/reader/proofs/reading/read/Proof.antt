@@ -36,7 +36,8 @@ use Rattle.reader.proofs.reading.read.Statement.{statement}
 use Rattle.reader.proofs.reading.read.Tie as tie
 
 abbrev Inv-loop : tie.InvT-loop
-Inv-loop text store₀ counted₀ kept₀ i₀ at end weight clause start store counted kept i = Inside text store₀ i₀ store counted kept i weight clause start
+Inv-loop text store₀ counted₀ kept₀ i₀ at end weight clause start store counted kept i =
+    Inside text store₀ i₀ store counted kept i weight clause start
 
 abbrev μ-loop : tie.MeasureT-loop
 μ-loop text store₀ counted₀ kept₀ i₀ at end weight clause start store counted kept i = length text - i
@@ -51,7 +52,8 @@ abbrev μ-text : tie.MeasureT-text
 abbrev textOf : tie.At-text Inv-loop μ-loop Inv-text μ-text → List ℕ
 textOf c = c .before .before .before .before .args .text .now
 
-first : (c : tie.After-past-token Inv-loop μ-loop Inv-text μ-text) → TokenAt (textOf (c .before .before)) (c .before .before .text .i) (c .before .past-blanks .result) (c .past-token .result)
+first : (c : tie.After-past-token Inv-loop μ-loop Inv-text μ-text)
+    → TokenAt (textOf (c .before .before)) (c .before .before .text .i) (c .before .past-blanks .result) (c .past-token .result)
 first c = token-found (c .before .before .text .inv .here) (c .before .past-blanks .ensures) (c .past-token .ensures)
 
 -- the line that a clause is on, and its weight
@@ -61,15 +63,18 @@ openingOf c = c .before .before .before .before .before .before .before .before
 abbrev lineOf : tie.At-loop Inv-loop μ-loop Inv-text μ-text → tie.After-past-token Inv-loop μ-loop Inv-text μ-text
 lineOf c = openingOf c .before .before .before .before .before
 
-next : (c : tie.After-past-token2 Inv-loop μ-loop Inv-text μ-text) → TokenAt (textOf (lineOf (c .before .before) .before .before)) (c .before .before .loop .i) (c .before .past-blanks2 .result) (c .past-token2 .result)
+next : (c : tie.After-past-token2 Inv-loop μ-loop Inv-text μ-text)
+    → TokenAt (textOf (lineOf (c .before .before) .before .before)) (c .before .before .loop .i) (c .before .past-blanks2 .result) (c .past-token2 .result)
 next c = token-found (c .before .before .loop .inv .here) (c .before .past-blanks2 .ensures) (c .past-token2 .ensures)
 
 -- the store inside a clause is the caller's beyond its constant
-held : (c : tie.At-loop Inv-loop μ-loop Inv-text μ-text) → Lent (lineOf c .before .before .before .before .before .before .args .store .now) (c .loop .store)
+held : (c : tie.At-loop Inv-loop μ-loop Inv-text μ-text)
+    → Lent (lineOf c .before .before .before .before .before .before .args .store .now) (c .loop .store)
 held c = lent-then (lent-begun _ (lineOf c .before .before .text .inv .lent) (inside-fits (c .loop .inv)) (c .before .before .before .begin .ensures)) (c .loop .inv .lent)
 
 -- after a clause's 0
-past-end : (c : tie.After-past-token3 Inv-loop μ-loop Inv-text μ-text) → TokenAt (textOf (lineOf (c .before .before .before .before .before .before .before .before .before) .before .before)) (c .before .before .before .before .before .before .before .past-token2 .result) (c .before .past-blanks3 .result) (c .past-token3 .result)
+past-end : (c : tie.After-past-token3 Inv-loop μ-loop Inv-text μ-text)
+    → TokenAt (textOf (lineOf (c .before .before .before .before .before .before .before .before .before) .before .before)) (c .before .before .before .before .before .before .before .past-token2 .result) (c .before .past-blanks3 .result) (c .past-token3 .result)
 past-end c = token-found (next (c .before .before .before .before .before .before .before) .within) (c .before .past-blanks3 .ensures) (c .past-token3 .ensures)
 
 nothing-requires : tie.Need-nothing-requires Inv-loop μ-loop Inv-text μ-text
@@ -204,7 +209,8 @@ past-blanks-requires-3 : tie.Need-past-blanks-requires-3 Inv-loop μ-loop Inv-te
 past-blanks-requires-3 c κs = next (c .before .before .before .before .before) .within
 
 past-token-requires-3 : tie.Need-past-token-requires-3 Inv-loop μ-loop Inv-text μ-text
-past-token-requires-3 c κs = rw (c .past-blanks3 .ensures) (past-within blank _ _ (next (c .before .before .before .before .before .before) .within))
+past-token-requires-3 c κs =
+    rw (c .past-blanks3 .ensures) (past-within blank _ _ (next (c .before .before .before .before .before .before) .within))
 
 refused-requires-4 : tie.Need-refused-requires-4 Inv-loop μ-loop Inv-text μ-text
 refused-requires-4 c κs = search needs
@@ -218,7 +224,8 @@ slice-write-store c =
     omega (arith, inside-fits (at .loop .inv), at .loop .inv .row .rows .laid .room)
 
 with-clause-requires : tie.Need-with-clause-requires Inv-loop μ-loop Inv-text μ-text
-with-clause-requires c κs = inside-counts (c .before .before .before .before .before .before .before .before .before .before .loop .inv)
+with-clause-requires c κs =
+    inside-counts (c .before .before .before .before .before .before .before .before .before .before .loop .inv)
 
 text-less-3 : tie.Need-text-less-3 Inv-loop μ-loop Inv-text μ-text
 text-less-3 c =
@@ -243,7 +250,8 @@ returns c =
     text-ends (t .before .before .text .inv) (first t) (c .if2 .taken)
 
 same-length-2 : tie.Need-same-length-2 Inv-loop μ-loop Inv-text μ-text
-same-length-2 c = c .before .before .before .before .before .before .before .before .before .before .before .text .inv .lent .long
+same-length-2 c =
+    c .before .before .before .before .before .before .before .before .before .before .before .text .inv .lent .long
 
 returns-2 : tie.Need-returns-2 Inv-loop μ-loop Inv-text μ-text
 returns-2 c =

@@ -13,8 +13,9 @@ use Rattle.reader.proofs.Says.{firstBy, first-many, first-out, first-ov
 use Rattle.reader.proofs.words.first_word.Statement.{statement}
 use Rattle.reader.proofs.words.first_word.Tie as tie
 
-by-spelling : (c : tie.After-weight-spelled) (cs : List Clause) → c .before .before .args .clauses ≡ length cs → c .before .before .args .total ≡ totalOf cs → (s : Spelled) → c .weight-spelled .result ≡ s
-    → firstBy (c .before .before .args .clauses) (c .before .before .args .total) s ≡ firstWord cs (c .before .before .args .t .now)
+by-spelling : (c : tie.After-weight-spelled) (cs : List Clause) → c .before .before .args .clauses ≡ length cs
+    → c .before .before .args .total ≡ totalOf cs → (s : Spelled) → c .weight-spelled .result ≡ s
+    → firstBy (c .before .before .args .clauses) (c .before .before .args .total) s ≡ firstWord cs (c .before .before .args .token .now)
 by-spelling c cs k m s e =
     ap₂ (λ (a b : ℕ). firstBy a b s) k m
     ∙ ap (firstBy (length cs) (totalOf cs)) (sym e ∙ c .weight-spelled .ensures)
@@ -24,9 +25,12 @@ by-spelling c cs k m s e =
 abbrev weightOf : tie.After-known-told → declared.Weight
 weightOf c = c .before .weight .given .0 .0
 
-by-weight : (c : tie.After-known-told) (cs : List Clause) → c .before .before .before .before .before .args .clauses ≡ length cs → c .before .before .before .before .before .args .total ≡ totalOf cs
-    → firstBy (c .before .before .before .before .before .args .clauses) (c .before .before .before .before .before .args .total) (Spelled.Right (weightOf c)) ≡ firstWord cs (c .before .before .before .before .before .args .t .now)
-by-weight c cs k m = by-spelling (c .before .before .before) cs k m (Spelled.Right (weightOf c)) (c .before .weight .given .1)
+by-weight : (c : tie.After-known-told) (cs : List Clause)
+    → c .before .before .before .before .before .args .clauses ≡ length cs
+    → c .before .before .before .before .before .args .total ≡ totalOf cs
+    → firstBy (c .before .before .before .before .before .args .clauses) (c .before .before .before .before .before .args .total) (Spelled.Right (weightOf c)) ≡ firstWord cs (c .before .before .before .before .before .args .token .now)
+by-weight c cs k m =
+    by-spelling (c .before .before .before) cs k m (Spelled.Right (weightOf c)) (c .before .weight .given .1)
 
 weight-spelled-requires : tie.Need-weight-spelled-requires
 weight-spelled-requires c κs = search needs

@@ -11,8 +11,11 @@ use Rattle.reader.proofs.words.literal.Statement.{statement}
 use Rattle.reader.proofs.words.literal.Tie as tie
 
 -- what the number says
-by-number : (c : tie.After-read-number) (n : Number) → c .read-number .result ≡ n → literalBy (c .before .before .args .written) (coded (c .before .before .args .sign)) n ≡ literalSays (c .before .before .args .written) (signed (coded (c .before .before .args .sign)) (c .before .before .args .digits .now))
-by-number c n e = ap (literalBy _ _) (sym e ∙ c .read-number .ensures) ∙ sym (literal-says _ _ _ (code-variable _ (c .before .before .pre)))
+by-number : (c : tie.After-read-number) (n : Number) → c .read-number .result ≡ n
+    → literalBy (c .before .before .args .written) (coded (c .before .before .args .sign)) n ≡ literalSays (c .before .before .args .written) (signed (coded (c .before .before .args .sign)) (c .before .before .args .digits .now))
+by-number c n e =
+    ap (literalBy _ _) (sym e ∙ c .read-number .ensures)
+    ∙ sym (literal-says _ _ _ (code-variable _ (c .before .before .pre)))
 
 low : (c : tie.After-x) → c .x .given .0 .0 ≤ mostVariables
 low c = number-below mostVariables _ _ (sym (c .before .before .read-number .ensures) ∙ c .x .given .1)

@@ -8,7 +8,8 @@ use Rattle.reader.proofs.words.weight_spelled.Statement.{statement}
 use Rattle.reader.proofs.words.weight_spelled.Tie as tie
 
 -- neither `h` nor `0`: what the number says
-by-number : (c : tie.After-read-number) → spelledBy (numberOf mostWeight (c .before .before .before .before .before .before .args .t .now)) ≡ spelledAs (weightSpelled (c .before .before .before .before .before .before .args .t .now))
+by-number : (c : tie.After-read-number)
+    → spelledBy (numberOf mostWeight (c .before .before .before .before .before .before .args .token .now)) ≡ spelledAs (weightSpelled (c .before .before .before .before .before .before .args .token .now))
 by-number c =
     let zero = c .before .before in
     let hard = zero .before .before in
@@ -39,13 +40,19 @@ enum-told-2 : tie.Need-enum-told-2
 enum-told-2 c = search needs
 
 returns-3 : tie.Need-returns-3
-returns-3 c = ap spelledBy (sym (c .before .w .given .1) ∙ c .before .before .before .read-number .ensures) ∙ by-number (c .before .before .before)
+returns-3 c =
+    ap spelledBy (sym (c .before .w .given .1) ∙ c .before .before .before .read-number .ensures)
+    ∙ by-number (c .before .before .before)
 
 returns-4 : tie.Need-returns-4
-returns-4 c = ap spelledBy (sym (c .enum-told .given .1) ∙ c .before .before .read-number .ensures) ∙ by-number (c .before .before)
+returns-4 c =
+    ap spelledBy (sym (c .enum-told .given .1) ∙ c .before .before .read-number .ensures)
+    ∙ by-number (c .before .before)
 
 returns-5 : tie.Need-returns-5
-returns-5 c = ap spelledBy (sym (c .enum-told2 .given .1) ∙ c .before .before .read-number .ensures) ∙ by-number (c .before .before)
+returns-5 c =
+    ap spelledBy (sym (c .enum-told2 .given .1) ∙ c .before .before .read-number .ensures)
+    ∙ by-number (c .before .before)
 
 pub weight-spelled-spec : {M : Type 1} → statement M
 weight-spelled-spec =
