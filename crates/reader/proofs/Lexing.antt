@@ -120,6 +120,10 @@ lines-token p (b ∷ bs) h = go (startsInToken bs) refl (lines-token (suc p) bs)
         let n : p + 1 ≡ suc p = omega arith in
         rw (span-more inToken b bs h, no-token bs e, n) (lines-begun p b bs h e ∙ push-begun p b (lines (suc p) bs))
 
+-- the bytes from one place to another
+abbrev pub bytesAt : List ℕ → ℕ → ℕ → List ℕ
+bytesAt text at end = take (end - at) (drop at text)
+
 -- there is always a first line
 abbrev Some : List Line → Type 0
 Some ls = (l : Line) × (rest : List Line) × (ls ≡ l ∷ rest)
@@ -146,7 +150,7 @@ module _ {text : List ℕ} {i at end : ℕ} (t : TokenAt text i at end) where
       ∙ ap (from text) (sym (t .starts))
 
   abbrev pub found : Token
-  found = tokenOf at (take (end - at) (drop at text))
+  found = tokenOf at (bytesAt text at end)
 
   pub from-token : at < end → from text i ≡ push found (from text end)
   from-token h =

@@ -6,3 +6,5 @@ pub mod Rows
 pub mod Lexing
 pub mod Modes
 pub mod States
+pub mod AtLine
+pub mod AtClause
