@@ -20,7 +20,7 @@ use Rattle.reader.specs.Keeping.{literalsFrom, Kept, again, opposed, new
 use Rattle.reader.specs.Theorems.Limits.{Taken, later-taken, open-literal, open-clause}
 use Rattle.reader.specs.declared.words.Word.{Word}
 use Rattle.reader.proofs.Spans.{TokenAt}
-use Rattle.reader.proofs.Rows.{Row, row-more, row-flagged, row-coded, row-closed}
+use Rattle.reader.proofs.AtWork.{Row, row-more, row-flagged, row-coded, row-closed}
 use Rattle.reader.proofs.Lexing.{from, from-blanks, bytesAt}
 use Rattle.reader.proofs.Modes.{between, inside, after, onText, token-goes, token-stops, line-stops, line-goes}
 use Rattle.reader.proofs.States.{Lent, lent-set, Between, Inside}

@@ -22,7 +22,7 @@ use Rattle.reader.specs.Promise.{ReadAnswers}
 use Rattle.reader.specs.Theorems.Limits.{Opens, first-taken, open-begun}
 use Rattle.reader.specs.declared.words.Opening.{Opening}
 use Rattle.reader.proofs.Spans.{past-within, TokenAt}
-use Rattle.reader.proofs.Rows.{row-begun}
+use Rattle.reader.proofs.AtWork.{row-begun}
 use Rattle.reader.proofs.Lexing.{from, bytesAt}
 use Rattle.reader.proofs.Modes.{
   between,

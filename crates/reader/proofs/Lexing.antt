@@ -102,15 +102,17 @@ unfolding span startsInToken
 no-token [] e = refl
 no-token (b ∷ bs) e = span-stop inToken b bs e
 
-lines-token : (p : ℕ) (bs : List ℕ) → startsInToken bs ≡ true
-    → lines p bs ≡ push (tokenOf p (take (span inToken bs) bs)) (lines (p + span inToken bs) (drop (span inToken bs) bs))
+-- a token at place p, and the lines after it
+abbrev Front : ℕ → List ℕ → ℕ → Type 0
+Front p bs n = lines p bs ≡ push (tokenOf p (take n bs)) (lines (p + n) (drop n bs))
+
+lines-token : (p : ℕ) (bs : List ℕ) → startsInToken bs ≡ true → Front p bs (span inToken bs)
 unfolding startsInToken
 lines-token p [] h = never (sym h)
 lines-token p (b ∷ bs) h = go (startsInToken bs) refl (lines-token (suc p) bs)
   where
-    go : (t : Bool) → startsInToken bs ≡ t
-        → (startsInToken bs ≡ true → lines (suc p) bs ≡ push (tokenOf (suc p) (take (span inToken bs) bs)) (lines (suc p + span inToken bs) (drop (span inToken bs) bs)))
-        → lines p (b ∷ bs) ≡ push (tokenOf p (take (span inToken (b ∷ bs)) (b ∷ bs))) (lines (p + span inToken (b ∷ bs)) (drop (span inToken (b ∷ bs)) (b ∷ bs)))
+    go : (t : Bool) → startsInToken bs ≡ t → (startsInToken bs ≡ true → Front (suc p) bs (span inToken bs))
+        → Front p (b ∷ bs) (span inToken (b ∷ bs))
     go true e ih =
         let n : p + suc (span inToken bs) ≡ suc p + span inToken bs = omega arith in
         rw (span-more inToken b bs h, n)
@@ -139,7 +141,8 @@ lines-some p (b ∷ bs) =
     let more = lines-some (suc p) bs in
     on-test Some (eqb b lineFeed) (λ _. (_, _, refl)) λ _.
     on-test Some (blank b) (λ _. more) λ _.
-    on-test Some (startsInToken bs) (λ _. some-first (widened p b) (lines (suc p) bs) more) (λ _. some-first (begun p b) (lines (suc p) bs) more)
+    on-test Some (startsInToken bs) (λ _. some-first (widened p b) (lines (suc p) bs) more)
+    (λ _. some-first (begun p b) (lines (suc p) bs) more)
 
 -- ---- the same of a text, at a token that was looked for from i on
 module _ {text : List ℕ} {i at end : ℕ} (t : TokenAt text i at end) where

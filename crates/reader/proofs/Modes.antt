@@ -96,20 +96,22 @@ module _ (I : Problem) where
   skip-byte p b bs h =
       on-test Same (eqb b lineFeed) (λ e. never (sym e ∙ not-true (eqb b lineFeed) h)) λ _.
       on-test Same (blank b) (λ _. refl) λ _.
-      on-test Same (startsInToken bs) (λ _. skip-first (widened p b) (lines (suc p) bs)) (λ _. skip-first (begun p b) (lines (suc p) bs))
+      on-test Same (startsInToken bs) (λ _. skip-first (widened p b) (lines (suc p) bs))
+      (λ _. skip-first (begun p b) (lines (suc p) bs))
     where
       Same : List Line → Type 0
       Same ls = onText (skipping I) ls ≡ onText (skipping I) (lines (suc p) bs)
 
-  skip-bytes : (p : ℕ) (bs : List ℕ)
-      → onText (skipping I) (lines p bs) ≡ onText (skipping I) (lines (p + span inLine bs) (drop (span inLine bs) bs))
+  -- n bytes are skipped
+  abbrev Skips : ℕ → List ℕ → ℕ → Type 0
+  Skips p bs n = onText (skipping I) (lines p bs) ≡ onText (skipping I) (lines (p + n) (drop n bs))
+
+  skip-bytes : (p : ℕ) (bs : List ℕ) → Skips p bs (span inLine bs)
   unfolding span
   skip-bytes p [] = rw add-zero
   skip-bytes p (b ∷ bs) = go (inLine b) refl (skip-bytes (suc p) bs)
     where
-      go : (t : Bool) → inLine b ≡ t
-          → onText (skipping I) (lines (suc p) bs) ≡ onText (skipping I) (lines (suc p + span inLine bs) (drop (span inLine bs) bs))
-          → onText (skipping I) (lines p (b ∷ bs)) ≡ onText (skipping I) (lines (p + span inLine (b ∷ bs)) (drop (span inLine (b ∷ bs)) (b ∷ bs)))
+      go : (t : Bool) → inLine b ≡ t → Skips (suc p) bs (span inLine bs) → Skips p (b ∷ bs) (span inLine (b ∷ bs))
       go true e h =
           let n : p + suc (span inLine bs) ≡ suc p + span inLine bs = omega arith in
           rw (span-more inLine b bs e, n) (skip-byte p b bs e ∙ h)
@@ -121,10 +123,10 @@ module _ (I : Problem) where
   skip-end p (b ∷ bs) h =
       rw (lines-feed p b bs (not-false (eqb b lineFeed) (span-none inLine b bs h)))
 
-  pub skip-line : (text : List ℕ) (i : ℕ)
-      → onText (skipping I) (from text i) ≡ onText (between I) (from text (past inLine text i))
+  pub skip-line : (text : List ℕ) (i : ℕ) → onText (skipping I) (from text i) ≡ onText (between I) (from text (past inLine text i))
   skip-line text i =
+      let j = past inLine text i in
       let rest = drop-drop (span inLine (drop i text)) i text in
       skip-bytes i (drop i text)
-      ∙ ap (λ (bs : List ℕ). onText (skipping I) (lines (past inLine text i) bs)) rest
-      ∙ skip-end (past inLine text i) (drop (past inLine text i) text) (ap (span inLine) (sym rest) ∙ span-after inLine (drop i text))
+      ∙ ap (λ (bs : List ℕ). onText (skipping I) (lines j bs)) rest
+      ∙ skip-end j (drop j text) (ap (span inLine) (sym rest) ∙ span-after inLine (drop i text))

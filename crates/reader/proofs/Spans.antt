@@ -2,7 +2,7 @@
 use Prim.Native.Nat.{ℕ, suc, _+_, _-_, _≤_, _<_}
 use mathlib.Core.Bool.{Bool, true, false}
 use mathlib.Core.List.{List, [], _∷_}
-use mathlib.Core.Path.{_≡_, refl, ap}
+use mathlib.Core.Path.{_≡_, refl, ap, _∙_}
 use native.Mathlib.Omega.{arith}
 use native.Mathlib.Numerals.{add-one}
 use lib.ListN.{length, getD, take, drop, length-take, length-drop, drop-of-length-le}
@@ -57,7 +57,8 @@ module _ (kind : ℕ → Bool) where
 
     pub passed-more : i < length text → kind (getD text i 0) ≡ true → Passed text from (i + 1)
     passed-more h e =
-        record { within = omega arith; same = omega (arith, p .same, ap (span kind) (at-byte h), span-more (getD text i 0) (drop (suc i) text) e, ap (λ (n : ℕ). span kind (drop n text)) (add-one i)) }
+        let more = ap (span kind) (at-byte h) ∙ span-more (getD text i 0) (drop (suc i) text) e in
+        record { within = omega arith; same = omega (arith, p .same, more, ap (λ (n : ℕ). span kind (drop n text)) (add-one i)) }
 
     pub passed-stop : i < length text → kind (getD text i 0) ≡ false → i ≡ past kind text from
     passed-stop h e = omega (arith, p .same, ap (span kind) (at-byte h), span-stop (getD text i 0) (drop (suc i) text) e)

@@ -18,7 +18,8 @@ use Rattle.reader.specs.Reading.{read, refused, nothing, readOf}
 use Rattle.reader.specs.Survey.{counts, surveyOf}
 use Rattle.reader.specs.Promise.{ReadAnswers}
 use Rattle.reader.specs.Theorems.Limits.{Sound, Open, nothing-sound}
-use Rattle.reader.proofs.Rows.{Rows, Row, rows-none}
+use Rattle.reader.proofs.Rows.{Rows, rows-none}
+use Rattle.reader.proofs.AtWork.{Row}
 use Rattle.reader.proofs.Lexing.{from}
 use Rattle.reader.proofs.Modes.{between, inside, onText, text-lines}
 

@@ -4,7 +4,18 @@ use mathlib.Core.Path.{sym, _∙_}
 use native.Mathlib.Omega.{arith}
 use borrow.Author.Needs.{needs}
 use lib.ListN.{length}
-use Rattle.reader.proofs.Digits.{ReadTo, digit-low, spelled-nil, spelled-zero, read-none, read-more, read-other, read-all, read-worth, number-misspelled, number-over, number-value}
+use Rattle.reader.proofs.Digits.{
+  digit-low,
+  spelled-nil,
+  spelled-zero,
+  number-misspelled,
+  ReadTo,
+  read-none,
+  read-more,
+  read-other,
+  read-over,
+  read-value,
+}
 use Rattle.reader.proofs.numbers.read_number.Statement.{statement}
 use Rattle.reader.proofs.numbers.read_number.Tie as tie
 
@@ -66,19 +77,18 @@ loop-again c =
 returns-3 : tie.Need-returns-3 Inv-loop μ-loop
 returns-3 c =
     let at = c .before .before .before .before in
-    number-misspelled _ _ (read-other (at .loop .inv) (at .before .before .before .if1 .left) (at .before .if2 .left) (search needs) (sym (c .before .is-digit .ensures) ∙ c .if3 .left))
+    read-other (at .loop .inv) (at .before .before .before .if1 .left) (at .before .if2 .left) (search needs)
+    (sym (c .before .is-digit .ensures) ∙ c .if3 .left)
 
 returns-4 : tie.Need-returns-4 Inv-loop μ-loop
 returns-4 c =
     let at = c .before .before in
-    number-over _ _ (read-all (at .loop .inv) (at .before .before .before .if1 .left) (at .before .if2 .left) (search needs))
-    (omega (arith, read-worth (at .loop .inv) (search needs)))
+    read-over (at .loop .inv) (at .before .before .before .if1 .left) (at .before .if2 .left) (search needs) (c .if4 .taken)
 
 returns-5 : tie.Need-returns-5 Inv-loop μ-loop
 returns-5 c =
     let at = c .before .before in
-    number-value _ _ _ (read-all (at .loop .inv) (at .before .before .before .if1 .left) (at .before .if2 .left) (search needs))
-    (omega (arith, read-worth (at .loop .inv) (search needs))) (search needs)
+    read-value (at .loop .inv) (at .before .before .before .if1 .left) (at .before .if2 .left) (search needs) (c .if4 .left)
 
 pub read-number-spec : {M : Type 1} → statement M
 read-number-spec =
