@@ -27,7 +27,8 @@ use Rattle.reader.proofs.States.{Lent, lent-set, Between, Inside}
 
 -- ---- a literal is kept
 -- what the row of a clause is with the literals ls
-record Grown (before store : List ℕ) (n : ℕ) (cs : List Clause) (start kept written : ℕ) (w : Weight) (ls : List Literal) : Type 0 where
+record Grown (before store : List ℕ) (n : ℕ) (cs : List Clause) (start kept written : ℕ) (w : Weight) (ls : List Literal)
+    : Type 0 where
   row : Row store n cs start kept w (flagOf (tautology ls)) ls
   shorter : kept ≤ written
   lent : Lent before store
@@ -42,7 +43,8 @@ module _ {before store : List ℕ} {n : ℕ} {cs : List Clause} {start kept : �
   has : (k : Literal) {answer : Bool} → occurs k (literalsFrom store start kept) ≡ answer → occurs k ls ≡ answer
   has k e = ap (occurs k) (sym (r .literals)) ∙ e
 
-  new-row : {later : List ℕ} → Row later n cs start (kept + 1) w (flagOf (occurs (opposite l) ls || tautology ls)) (ls ++ (l ∷ []))
+  new-row : {later : List ℕ}
+      → Row later n cs start (kept + 1) w (flagOf (occurs (opposite l) ls || tautology ls)) (ls ++ (l ∷ []))
       → Lent before later → occurs l ls ≡ false → Grown before later n cs start (kept + 1) (suc written) w (keptWith ls l)
   new-row row k e = rw (kept-new ls l e) (record { row = rw (tautology-snoc ls l) row; shorter = omega arith; lent = k })
 

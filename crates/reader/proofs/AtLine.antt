@@ -17,7 +17,7 @@ use Rattle.reader.specs.Words.{letterC, First, weighs, firstWord}
 use Rattle.reader.specs.Reading.{refused, comment, lineRead, readOf}
 use Rattle.reader.specs.Survey.{counts}
 use Rattle.reader.specs.Spans.{inLine, past}
-use Rattle.reader.specs.Said.{openingSays}
+use Rattle.reader.specs.Said.{openingSays, FirstSaid}
 use Rattle.reader.specs.Promise.{ReadAnswers}
 use Rattle.reader.specs.Theorems.Limits.{Opens, first-taken, open-begun}
 use Rattle.reader.specs.declared.words.Opening.{Opening}
@@ -51,8 +51,7 @@ pub record Front (text : List ℕ) (counted : Instance) (i at end : ℕ) (r : Op
   pub token : TokenAt text i at end
   pub some : at < end
   pub plain : getD text at 0 ≡ letterC → ⊥
-  pub says : (cs : List Clause) → counted .clauses ≡ length cs → counted .total ≡ totalOf cs
-      → openingSays r ≡ firstWord cs (bytesAt text at end)
+  pub says : FirstSaid (bytesAt text at end) (counted .clauses) (counted .total) r
 
 module _ {text before store : List ℕ} {counted : Instance} {kept i : ℕ} (b : Between text before store counted kept i) where
   abbrev I : Problem

@@ -58,8 +58,9 @@ pub on-number : (P : Number → Type 0) (limit : ℕ) (t : List ℕ) → (spelle
     → (spelled t ≡ true → decimal t ≤ limit → P (Number.Value (decimal t))) → P (numberOf limit t)
 unfolding numberOf
 on-number P limit t f g h =
+    let v = decimal t in
     on-test P (spelled t)
-    (λ e. on-test P (leb (decimal t) limit) (λ l. h e (leb-true (decimal t) limit l)) (λ l. g e (leb-false (decimal t) limit l))) f
+    (λ e. on-test P (leb v limit) (λ l. h e (leb-true v limit l)) (λ l. g e (leb-false v limit l))) f
 
 pub number-below : (limit : ℕ) (t : List ℕ) (v : ℕ) → numberOf limit t ≡ Number.Value v → v ≤ limit
 number-below limit t v e = subst Below e (on-number Below limit t (λ _. tt) (λ _ _. tt) (λ _ h. h))

@@ -123,7 +123,8 @@ module _ (I : Problem) where
   skip-end p (b ∷ bs) h =
       rw (lines-feed p b bs (not-false (eqb b lineFeed) (span-none inLine b bs h)))
 
-  pub skip-line : (text : List ℕ) (i : ℕ) → onText (skipping I) (from text i) ≡ onText (between I) (from text (past inLine text i))
+  pub skip-line : (text : List ℕ) (i : ℕ)
+      → onText (skipping I) (from text i) ≡ onText (between I) (from text (past inLine text i))
   skip-line text i =
       let j = past inLine text i in
       let rest = drop-drop (span inLine (drop i text)) i text in

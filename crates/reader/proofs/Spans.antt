@@ -58,7 +58,8 @@ module _ (kind : ℕ → Bool) where
     pub passed-more : i < length text → kind (getD text i 0) ≡ true → Passed text from (i + 1)
     passed-more h e =
         let more = ap (span kind) (at-byte h) ∙ span-more (getD text i 0) (drop (suc i) text) e in
-        record { within = omega arith; same = omega (arith, p .same, more, ap (λ (n : ℕ). span kind (drop n text)) (add-one i)) }
+        let next = ap (λ (n : ℕ). span kind (drop n text)) (add-one i) in
+        record { within = omega arith; same = omega (arith, p .same, more, next) }
 
     pub passed-stop : i < length text → kind (getD text i 0) ≡ false → i ≡ past kind text from
     passed-stop h e = omega (arith, p .same, ap (span kind) (at-byte h), span-stop (getD text i 0) (drop (suc i) text) e)

@@ -72,7 +72,8 @@ begins text store counted e room = record {
 }
 
 -- ---- inside a clause: beside the instance I, the literals ls of a clause of this weight are read
-pub record Inside (text before : List ℕ) (i₀ : ℕ) (store : List ℕ) (counted : Instance) (kept i weight clause start : ℕ) : Type 0 where
+pub record Inside (text before : List ℕ) (i₀ : ℕ) (store : List ℕ) (counted : Instance) (kept i weight clause start : ℕ)
+    : Type 0 where
   pub I : Problem
   pub ls : List Literal
   pub counts-to : counted ≡ counts I

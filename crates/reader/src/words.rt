@@ -1,15 +1,13 @@
 use crate::numbers::Number;
 use crate::numbers::read_number;
 use instance::Instance;
-ghost use mathlib.Core.List.{List};
 ghost use mathlib.Core.Path.{_≡_};
 ghost use Prim.Native.Nat.{_+_, _*_, _<_, _≤_};
 ghost use lib.ListN.{length};
 ghost use Rattle.instance.specs.Limits.{mostWeight};
-ghost use Rattle.instance.specs.Clause.{Clause, totalOf};
 ghost use Rattle.instance.specs.Store.{literalOf};
-ghost use Rattle.reader.specs.Words.{alone, weightSpelled, signed, firstWord, laterWord};
-ghost use Rattle.reader.specs.Said.{spelledAs, openingSays, literalSays, wordSays};
+ghost use Rattle.reader.specs.Words.{alone, weightSpelled, signed, laterWord};
+ghost use Rattle.reader.specs.Said.{spelledAs, FirstSaid, literalSays, wordSays};
 
 // A weight that is rightly spelled: its code in the store (0 is hard), and whether it is out of the limits.
 pub struct Weight {
@@ -70,7 +68,7 @@ fn weight_spelled(token: &[u8]) -> Spelled
 // Spelling, clause count, weight, total: in this order.
 pub fn first_word(token: &[u8], clauses: usize, total: u64) -> Opening
     requires { ⌜ total ≤ mostWeight ⌝ }
-    ensures { λ r. ⌜ ((cs : List Clause) → clauses ≡ length cs → total ≡ totalOf cs → openingSays r ≡ firstWord cs (now (token .entry))) ⌝ }
+    ensures { λ r. ⌜ FirstSaid (now (token .entry)) clauses total r ⌝ }
 {
     let Spelled::Right(weight) = weight_spelled(token) else {
         return Opening::Fault(2);

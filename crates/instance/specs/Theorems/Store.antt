@@ -41,7 +41,9 @@ module _ {store : List ℕ} {I : Problem} (s : Stored store I) (k : ℕ) (h : k 
 
   -- what is left of the clauses at index k
   pub stored-rest : drop k (I .clauses) ≡ clauseIn store k ∷ drop (k + 1) (I .clauses)
-  stored-rest = rw add-one (drop-cons (I .clauses) k (clauseIn store k) h ∙ ap (λ (c : Clause). c ∷ drop (suc k) (I .clauses)) stored-get)
+  stored-rest =
+      rw add-one
+      (drop-cons (I .clauses) k (clauseIn store k) h ∙ ap (λ (c : Clause). c ∷ drop (suc k) (I .clauses)) stored-get)
 
 -- ---- where the literals lie
 -- the part of the store that is lent for the literals from s to e; codesIn of a clause, at its start and end

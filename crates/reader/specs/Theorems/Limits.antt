@@ -161,11 +161,14 @@ pub record Open (I : Problem) (w : Weight) (ls : List Literal) : Type 0 where
   pub fits : Every (In (I .variables)) ls
   pub different : Different ls
 
-more-clauses : (n m : ℕ) → n ≤ m → (c : Clause) → InBody n (c .body) → InBody m (c .body)
-more-clauses n m h c = go (c .body)
+in-more : (n m : ℕ) → n ≤ m → (l : Literal) → In n l → In m l
+in-more n m h l i = (i .0, omega arith)
+
+clause-in-more : (n m : ℕ) → n ≤ m → (c : Clause) → InBody n (c .body) → InBody m (c .body)
+clause-in-more n m h c = go (c .body)
   where
     go : (b : Body) → InBody n b → InBody m b
-    go (clause ls) k = every-map (In n) (In m) (λ l i. (i .0, omega arith)) ls k
+    go (clause ls) k = every-map (In n) (In m) (in-more n m h) ls k
 
 in-kept : (n : ℕ) (ls : List Literal) (l : Literal) → In n l → Every (In n) ls → Every (In n) (keptWith ls l)
 unfolding keptWith
@@ -185,8 +188,10 @@ module _ {I : Problem} {w : Weight} {ls : List Literal} (o : Open I w ls) where
   pub open-literal : {l : Literal} → Taken (I .written) l → Open (withLiteral I l) w (keptWith ls l)
   unfolding withLiteral
   open-literal {l} t =
+      let n = I .variables in
       let m = max (I .variables) (variableOf l) in
       let h = o .sound .within in
+      let In-clause : ℕ → Clause → Type 0 = λ x c. InBody x (c .body) in
       record {
         sound = record {
           within = record {
@@ -194,13 +199,13 @@ module _ {I : Problem} {w : Weight} {ls : List Literal} (o : Open I w ls) where
             few = h .few;
             many = omega (arith, t);
             light = h .light;
-            fits = every-map (λ c. InBody (I .variables) (c .body)) (λ c. InBody m (c .body)) (more-clauses (I .variables) m (omega arith)) (I .clauses) (h .fits);
+            fits = every-map (In-clause n) (In-clause m) (clause-in-more n m (omega arith)) (I .clauses) (h .fits);
             weighty = h .weighty;
           };
           different = o .sound .different;
         };
         opens = o .opens;
-        fits = in-kept m ls l (t .low, omega arith) (every-map (In (I .variables)) (In m) (λ k i. (i .0, omega arith)) ls (o .fits));
+        fits = in-kept m ls l (t .low, omega arith) (every-map (In n) (In m) (in-more n m (omega arith)) ls (o .fits));
         different = different-kept ls l (o .different);
       }
 
@@ -239,7 +244,11 @@ clause-gives end (t ∷ ts) I w ls o =
 
     go : (word : Later) → Holding (I .written) word
         → ((I′ : Problem) (w′ : Weight) (ls′ : List Literal) → Open I′ w′ ls′ → Gives (clauseFrom I′ w′ ls′ end ts))
-        → Gives (elim word as (λ _. Reading) [ badLater n ↦ refused n (t .place) | ends ↦ ended (withClause I w ls) ts | holds l ↦ clauseFrom (withLiteral I l) w (keptWith ls l) end ts ])
+        → Gives (elim word as (λ _. Reading) [
+          | badLater n ↦ refused n (t .place)
+          | ends ↦ ended (withClause I w ls) ts
+          | holds l ↦ clauseFrom (withLiteral I l) w (keptWith ls l) end ts
+        ])
     go (badLater n) h rest = tt
     go ends h rest = done ts
     go (holds l) h rest = rest (withLiteral I l) w (keptWith ls l) (open-literal o h)

@@ -267,7 +267,8 @@ past-blanks-requires-3 : tie.Need-past-blanks-requires-3 Inv-loop μ-loop Inv-te
 past-blanks-requires-3 c κs = next (c .before .before .before .before .before) .within
 
 past-token-requires-3 : tie.Need-past-token-requires-3 Inv-loop μ-loop Inv-text μ-text
-past-token-requires-3 c κs = rw (c .past-blanks3 .ensures) (past-within blank _ _ (next (c .before .before .before .before .before .before) .within))
+past-token-requires-3 c κs =
+    rw (c .past-blanks3 .ensures) (past-within blank _ _ (next (c .before .before .before .before .before .before) .within))
 
 refused-requires-4 : tie.Need-refused-requires-4 Inv-loop μ-loop Inv-text μ-text
 refused-requires-4 c κs = search needs
@@ -288,7 +289,8 @@ text-less-3 c =
     let end = c .before .before in
     let word = wordOf end in
     let line = openOf (insideOf word) in
-    omega (arith, ended end, following word, following word .token, insideOf word .loop .inv .further, front line, front line .token)
+    let f = following word in
+    omega (arith, ended end, f, f .token, insideOf word .loop .inv .further, front line, front line .token)
 
 text-again-3 : tie.Need-text-again-3 Inv-loop μ-loop Inv-text μ-text
 text-again-3 c =
