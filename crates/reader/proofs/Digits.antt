@@ -2,12 +2,12 @@
 use Prim.Native.Nat.{ℕ, _+_, _*_, _-_, _≤_, _<_, min}
 use mathlib.Core.Bool.{true, false}
 use mathlib.Core.List.{List, [], _∷_}
-use mathlib.Core.Path.{_≡_, refl, sym, ap, _∙_}
+use mathlib.Core.Path.{_≡_, refl, ap, subst, _∙_}
 use native.Mathlib.Omega.{arith}
-use borrow.Author.Tests.{eq-eqb, ne-eqb, le-leb, lt-leb, leb-true}
+use borrow.Author.Tests.{eq-eqb, ne-eqb, le-leb, lt-leb, leb-true, leb-false}
 use lib.Dec.{leb}
 use lib.ListN.{length, getD, drop}
-use Rattle.instance.specs.Theorems.Choices.{both}
+use Rattle.instance.specs.Theorems.Choices.{on-test, both}
 use Rattle.reader.specs.Numbers.{zeroDigit, nineDigit, digit, allDigits, spelled, valueFrom, decimal}
 use Rattle.reader.specs.Said.{numberOf}
 use Rattle.reader.specs.declared.numbers.Number.{Number}
@@ -47,6 +47,29 @@ unfolding valueFrom
 capped top v w [] h = h
 capped top v w (b ∷ bs) h = capped top (10 * v + (b - zeroDigit)) (10 * w + (b - zeroDigit)) bs (omega arith)
 
+-- ---- the answer
+pub number-misspelled : (limit : ℕ) (t : List ℕ) → spelled t ≡ false → Number.Misspelled ≡ numberOf limit t
+unfolding numberOf
+number-misspelled limit t e = rw (e, numberOf)
+
+-- what holds in each case of a number
+pub on-number : (P : Number → Type 0) (limit : ℕ) (t : List ℕ) → (spelled t ≡ false → P Number.Misspelled)
+    → (spelled t ≡ true → limit < decimal t → P Number.Over)
+    → (spelled t ≡ true → decimal t ≤ limit → P (Number.Value (decimal t))) → P (numberOf limit t)
+unfolding numberOf
+on-number P limit t f g h =
+    let v = decimal t in
+    on-test P (spelled t)
+    (λ e. on-test P (leb v limit) (λ l. h e (leb-true v limit l)) (λ l. g e (leb-false v limit l))) f
+
+pub number-below : (limit : ℕ) (t : List ℕ) (v : ℕ) → numberOf limit t ≡ Number.Value v → v ≤ limit
+number-below limit t v e = subst Below e (on-number Below limit t (λ _. tt) (λ _ _. tt) (λ _ h. h))
+  where
+    Below : Number → Type 0
+    Below (Number.Value v) = v ≤ limit
+    Below Number.Over = Unit {0}
+    Below Number.Misspelled = Unit {0}
+
 -- ---- the loop: what the bytes before i were read as
 pub record ReadTo (t : List ℕ) (limit value i : ℕ) : Type 0 where
   pub within : i ≤ length t
@@ -59,7 +82,8 @@ unfolding decimal
 read-none t limit = record { within = omega arith; held = omega arith; digits = refl; worth = refl }
 
 module _ {t : List ℕ} {limit value i : ℕ} (r : ReadTo t limit value i) where
-  pub read-more : i < length t → digit (getD t i 0) ≡ true → (v : ℕ) → v ≡ min (10 * value + (getD t i 0 - zeroDigit)) (limit + 1) → ReadTo t limit v (i + 1)
+  pub read-more : i < length t → digit (getD t i 0) ≡ true → (v : ℕ)
+      → v ≡ min (10 * value + (getD t i 0 - zeroDigit)) (limit + 1) → ReadTo t limit v (i + 1)
   unfolding valueFrom
   read-more h e v f =
       record {
@@ -73,28 +97,26 @@ module _ {t : List ℕ} {limit value i : ℕ} (r : ReadTo t limit value i) where
       }
 
   module _ (some : length t ≡ 0 → ⊥) (front : getD t 0 0 ≡ zeroDigit → ⊥) where
-    pub read-other : i < length t → digit (getD t i 0) ≡ false → spelled t ≡ false
+    pub read-other : i < length t → digit (getD t i 0) ≡ false → Number.Misspelled ≡ numberOf limit t
     read-other h e =
-        spelled-rest t some front ∙ r .digits ∙ rest-next allDigits t i h ∙ all-stop (getD t i 0) (drop (i + 1) t) e
+        number-misspelled limit t
+        (spelled-rest t some front ∙ r .digits ∙ rest-next allDigits t i h ∙ all-stop (getD t i 0) (drop (i + 1) t) e)
 
-    pub read-all : length t ≤ i → spelled t ≡ true
-    unfolding allDigits
-    read-all h = spelled-rest t some front ∙ r .digits ∙ rest-none allDigits t i h
+    module _ (all : length t ≤ i) where
+      read-all : spelled t ≡ true
+      unfolding allDigits
+      read-all = spelled-rest t some front ∙ r .digits ∙ rest-none allDigits t i all
 
-  pub read-worth : length t ≤ i → min (decimal t) (limit + 1) ≡ value
-  unfolding valueFrom
-  read-worth h = omega (arith, r .worth, r .held, rest-none (valueFrom value) t i h)
+      read-worth : min (decimal t) (limit + 1) ≡ value
+      unfolding valueFrom
+      read-worth = omega (arith, r .worth, r .held, rest-none (valueFrom value) t i all)
 
--- ---- the answer
-module _ (limit : ℕ) (t : List ℕ) where
-  pub number-misspelled : spelled t ≡ false → Number.Misspelled ≡ numberOf limit t
-  unfolding numberOf
-  number-misspelled e = rw (e, numberOf)
+      pub read-over : limit < value → Number.Over ≡ numberOf limit t
+      unfolding numberOf
+      read-over h = rw (read-all, lt-leb (decimal t) limit (omega (arith, read-worth)), numberOf)
 
-  pub number-over : spelled t ≡ true → limit < decimal t → Number.Over ≡ numberOf limit t
-  unfolding numberOf
-  number-over e h = rw (e, lt-leb (decimal t) limit h, numberOf)
-
-  pub number-value : (v : ℕ) → spelled t ≡ true → decimal t ≡ v → v ≤ limit → Number.Value v ≡ numberOf limit t
-  unfolding numberOf
-  number-value v e f h = rw (e, le-leb (decimal t) limit (omega arith), numberOf) (ap Number.Value (sym f))
+      pub read-value : value ≤ limit → Number.Value value ≡ numberOf limit t
+      unfolding numberOf
+      read-value h =
+          let same : value ≡ decimal t = omega (arith, read-worth) in
+          rw (read-all, le-leb (decimal t) limit (omega arith), numberOf) (ap Number.Value same)

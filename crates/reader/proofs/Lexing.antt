@@ -86,7 +86,8 @@ lines-blanks p (b ∷ bs) = go (blank b) refl (lines-blanks (suc p) bs)
 abbrev tokenOf : ℕ → List ℕ → Token
 tokenOf p bytes = record { place = p; bytes = bytes }
 
-push-widened : (p b q : ℕ) (xs : List ℕ) (ls : List Line) → onFirst (widened p b) (push (tokenOf q xs) ls) ≡ push (tokenOf p (b ∷ xs)) ls
+push-widened : (p b q : ℕ) (xs : List ℕ) (ls : List Line)
+    → onFirst (widened p b) (push (tokenOf q xs) ls) ≡ push (tokenOf p (b ∷ xs)) ls
 unfolding onFirst widened
 push-widened p b q xs [] = refl
 push-widened p b q xs (l ∷ ls) = refl
@@ -101,14 +102,17 @@ unfolding span startsInToken
 no-token [] e = refl
 no-token (b ∷ bs) e = span-stop inToken b bs e
 
-lines-token : (p : ℕ) (bs : List ℕ) → startsInToken bs ≡ true → lines p bs ≡ push (tokenOf p (take (span inToken bs) bs)) (lines (p + span inToken bs) (drop (span inToken bs) bs))
+-- a token at place p, and the lines after it
+abbrev Front : ℕ → List ℕ → ℕ → Type 0
+Front p bs n = lines p bs ≡ push (tokenOf p (take n bs)) (lines (p + n) (drop n bs))
+
+lines-token : (p : ℕ) (bs : List ℕ) → startsInToken bs ≡ true → Front p bs (span inToken bs)
 unfolding startsInToken
 lines-token p [] h = never (sym h)
 lines-token p (b ∷ bs) h = go (startsInToken bs) refl (lines-token (suc p) bs)
   where
-    go : (t : Bool) → startsInToken bs ≡ t
-        → (startsInToken bs ≡ true → lines (suc p) bs ≡ push (tokenOf (suc p) (take (span inToken bs) bs)) (lines (suc p + span inToken bs) (drop (span inToken bs) bs)))
-        → lines p (b ∷ bs) ≡ push (tokenOf p (take (span inToken (b ∷ bs)) (b ∷ bs))) (lines (p + span inToken (b ∷ bs)) (drop (span inToken (b ∷ bs)) (b ∷ bs)))
+    go : (t : Bool) → startsInToken bs ≡ t → (startsInToken bs ≡ true → Front (suc p) bs (span inToken bs))
+        → Front p (b ∷ bs) (span inToken (b ∷ bs))
     go true e ih =
         let n : p + suc (span inToken bs) ≡ suc p + span inToken bs = omega arith in
         rw (span-more inToken b bs h, n)
@@ -117,6 +121,10 @@ lines-token p (b ∷ bs) h = go (startsInToken bs) refl (lines-token (suc p) bs)
     go false e ih =
         let n : p + 1 ≡ suc p = omega arith in
         rw (span-more inToken b bs h, no-token bs e, n) (lines-begun p b bs h e ∙ push-begun p b (lines (suc p) bs))
+
+-- the bytes from one place to another
+abbrev pub bytesAt : List ℕ → ℕ → ℕ → List ℕ
+bytesAt text at end = take (end - at) (drop at text)
 
 -- there is always a first line
 abbrev Some : List Line → Type 0
@@ -133,7 +141,8 @@ lines-some p (b ∷ bs) =
     let more = lines-some (suc p) bs in
     on-test Some (eqb b lineFeed) (λ _. (_, _, refl)) λ _.
     on-test Some (blank b) (λ _. more) λ _.
-    on-test Some (startsInToken bs) (λ _. some-first (widened p b) (lines (suc p) bs) more) (λ _. some-first (begun p b) (lines (suc p) bs) more)
+    on-test Some (startsInToken bs) (λ _. some-first (widened p b) (lines (suc p) bs) more)
+    (λ _. some-first (begun p b) (lines (suc p) bs) more)
 
 -- ---- the same of a text, at a token that was looked for from i on
 module _ {text : List ℕ} {i at end : ℕ} (t : TokenAt text i at end) where
@@ -144,7 +153,7 @@ module _ {text : List ℕ} {i at end : ℕ} (t : TokenAt text i at end) where
       ∙ ap (from text) (sym (t .starts))
 
   abbrev pub found : Token
-  found = tokenOf at (take (end - at) (drop at text))
+  found = tokenOf at (bytesAt text at end)
 
   pub from-token : at < end → from text i ≡ push found (from text end)
   from-token h =

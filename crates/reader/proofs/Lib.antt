@@ -1,8 +1,12 @@
 pub mod Rest
 pub mod Spans
 pub mod Digits
-pub mod Says
+pub mod FirstWords
+pub mod LaterWords
 pub mod Rows
+pub mod AtWork
 pub mod Lexing
 pub mod Modes
 pub mod States
+pub mod AtLine
+pub mod AtClause

@@ -47,13 +47,15 @@ text-lines I (l ∷ ls) = refl
 -- ---- at a token, the line goes on in another mode, or reading stops
 module _ {text : List ℕ} {i at end : ℕ} (t : TokenAt text i at end) (m : Mode) where
   module _ (some : at < end) where
-    pub token-goes : (m′ : Mode) → ((e : ℕ) (ts : List Token) → onLine m e (found t ∷ ts) ≡ onLine m′ e ts) → onText m (from text i) ≡ onText m′ (from text end)
+    pub token-goes : (m′ : Mode) → ((e : ℕ) (ts : List Token) → onLine m e (found t ∷ ts) ≡ onLine m′ e ts)
+        → onText m (from text i) ≡ onText m′ (from text end)
     unfolding onFirst
     token-goes m′ h =
         let (l, ls, e) = lines-some end (drop end text) in
         rw (from-token t some, e) (ap (λ (r : Reading). andThen r ls) (h (l .end) (l .tokens)))
 
-    pub token-stops : (n p : ℕ) → ((e : ℕ) (ts : List Token) → onLine m e (found t ∷ ts) ≡ refused n p) → onText m (from text i) ≡ refused n p
+    pub token-stops : (n p : ℕ) → ((e : ℕ) (ts : List Token) → onLine m e (found t ∷ ts) ≡ refused n p)
+        → onText m (from text i) ≡ refused n p
     unfolding onFirst
     token-stops n p h =
         let (l, ls, e) = lines-some end (drop end text) in
@@ -88,23 +90,28 @@ module _ (I : Problem) where
   skip-first f [] = refl
   skip-first f (l ∷ ls) = refl
 
-  skip-byte : (p b : ℕ) (bs : List ℕ) → inLine b ≡ true → onText (skipping I) (lines p (b ∷ bs)) ≡ onText (skipping I) (lines (suc p) bs)
+  skip-byte : (p b : ℕ) (bs : List ℕ) → inLine b ≡ true
+      → onText (skipping I) (lines p (b ∷ bs)) ≡ onText (skipping I) (lines (suc p) bs)
   unfolding lines inLine
   skip-byte p b bs h =
       on-test Same (eqb b lineFeed) (λ e. never (sym e ∙ not-true (eqb b lineFeed) h)) λ _.
       on-test Same (blank b) (λ _. refl) λ _.
-      on-test Same (startsInToken bs) (λ _. skip-first (widened p b) (lines (suc p) bs)) (λ _. skip-first (begun p b) (lines (suc p) bs))
+      on-test Same (startsInToken bs) (λ _. skip-first (widened p b) (lines (suc p) bs))
+      (λ _. skip-first (begun p b) (lines (suc p) bs))
     where
       Same : List Line → Type 0
       Same ls = onText (skipping I) ls ≡ onText (skipping I) (lines (suc p) bs)
 
-  skip-bytes : (p : ℕ) (bs : List ℕ) → onText (skipping I) (lines p bs) ≡ onText (skipping I) (lines (p + span inLine bs) (drop (span inLine bs) bs))
+  -- n bytes are skipped
+  abbrev Skips : ℕ → List ℕ → ℕ → Type 0
+  Skips p bs n = onText (skipping I) (lines p bs) ≡ onText (skipping I) (lines (p + n) (drop n bs))
+
+  skip-bytes : (p : ℕ) (bs : List ℕ) → Skips p bs (span inLine bs)
   unfolding span
   skip-bytes p [] = rw add-zero
   skip-bytes p (b ∷ bs) = go (inLine b) refl (skip-bytes (suc p) bs)
     where
-      go : (t : Bool) → inLine b ≡ t → onText (skipping I) (lines (suc p) bs) ≡ onText (skipping I) (lines (suc p + span inLine bs) (drop (span inLine bs) bs))
-          → onText (skipping I) (lines p (b ∷ bs)) ≡ onText (skipping I) (lines (p + span inLine (b ∷ bs)) (drop (span inLine (b ∷ bs)) (b ∷ bs)))
+      go : (t : Bool) → inLine b ≡ t → Skips (suc p) bs (span inLine bs) → Skips p (b ∷ bs) (span inLine (b ∷ bs))
       go true e h =
           let n : p + suc (span inLine bs) ≡ suc p + span inLine bs = omega arith in
           rw (span-more inLine b bs e, n) (skip-byte p b bs e ∙ h)
@@ -116,9 +123,11 @@ module _ (I : Problem) where
   skip-end p (b ∷ bs) h =
       rw (lines-feed p b bs (not-false (eqb b lineFeed) (span-none inLine b bs h)))
 
-  pub skip-line : (text : List ℕ) (i : ℕ) → onText (skipping I) (from text i) ≡ onText (between I) (from text (past inLine text i))
+  pub skip-line : (text : List ℕ) (i : ℕ)
+      → onText (skipping I) (from text i) ≡ onText (between I) (from text (past inLine text i))
   skip-line text i =
+      let j = past inLine text i in
       let rest = drop-drop (span inLine (drop i text)) i text in
       skip-bytes i (drop i text)
-      ∙ ap (λ (bs : List ℕ). onText (skipping I) (lines (past inLine text i) bs)) rest
-      ∙ skip-end (past inLine text i) (drop (past inLine text i) text) (ap (span inLine) (sym rest) ∙ span-after inLine (drop i text))
+      ∙ ap (λ (bs : List ℕ). onText (skipping I) (lines j bs)) rest
+      ∙ skip-end j (drop j text) (ap (span inLine) (sym rest) ∙ span-after inLine (drop i text))

@@ -2,7 +2,7 @@
 use Prim.Native.Nat.{ℕ, suc, _+_, _-_, _≤_, _<_}
 use mathlib.Core.Bool.{Bool, true, false}
 use mathlib.Core.List.{List, [], _∷_}
-use mathlib.Core.Path.{_≡_, refl, ap}
+use mathlib.Core.Path.{_≡_, refl, ap, _∙_}
 use native.Mathlib.Omega.{arith}
 use native.Mathlib.Numerals.{add-one}
 use lib.ListN.{length, getD, take, drop, length-take, length-drop, drop-of-length-le}
@@ -38,7 +38,8 @@ module _ (kind : ℕ → Bool) where
   span-after [] = refl
   span-after (b ∷ bs) = go (kind b) refl (span-after bs)
     where
-      go : (t : Bool) → kind b ≡ t → span kind (drop (span kind bs) bs) ≡ 0 → span kind (drop (span kind (b ∷ bs)) (b ∷ bs)) ≡ 0
+      go : (t : Bool) → kind b ≡ t → span kind (drop (span kind bs) bs) ≡ 0
+          → span kind (drop (span kind (b ∷ bs)) (b ∷ bs)) ≡ 0
       go true e h = rw (span-more b bs e) h
       go false e h = rw (span-stop b bs e) (span-stop b bs e)
 
@@ -56,7 +57,9 @@ module _ (kind : ℕ → Bool) where
 
     pub passed-more : i < length text → kind (getD text i 0) ≡ true → Passed text from (i + 1)
     passed-more h e =
-        record { within = omega arith; same = omega (arith, p .same, ap (span kind) (at-byte h), span-more (getD text i 0) (drop (suc i) text) e, ap (λ (n : ℕ). span kind (drop n text)) (add-one i)) }
+        let more = ap (span kind) (at-byte h) ∙ span-more (getD text i 0) (drop (suc i) text) e in
+        let next = ap (λ (n : ℕ). span kind (drop n text)) (add-one i) in
+        record { within = omega arith; same = omega (arith, p .same, more, next) }
 
     pub passed-stop : i < length text → kind (getD text i 0) ≡ false → i ≡ past kind text from
     passed-stop h e = omega (arith, p .same, ap (span kind) (at-byte h), span-stop (getD text i 0) (drop (suc i) text) e)
@@ -76,7 +79,8 @@ pub record TokenAt (text : List ℕ) (from at end : ℕ) : Type 0 where
   pub order : at ≤ end
   pub within : end ≤ length text
 
-pub token-found : {text : List ℕ} {from at end : ℕ} → from ≤ length text → at ≡ past blank text from → end ≡ past inToken text at → TokenAt text from at end
+pub token-found : {text : List ℕ} {from at end : ℕ} → from ≤ length text → at ≡ past blank text from
+    → end ≡ past inToken text at → TokenAt text from at end
 token-found {text} {from} {at} {end} h e f =
     record {
       starts = e;
@@ -86,5 +90,6 @@ token-found {text} {from} {at} {end} h e f =
       within = omega (arith, past-within inToken text at (omega (arith, past-within blank text from h)));
     }
 
-pub token-some : {text : List ℕ} {from at end : ℕ} → TokenAt text from at end → at < end → 0 < length (take (end - at) (drop at text))
+pub token-some : {text : List ℕ} {from at end : ℕ} → TokenAt text from at end → at < end
+    → 0 < length (take (end - at) (drop at text))
 token-some {text} {from} {at} {end} t h = omega (arith, t, length-take (end - at) (drop at text), length-drop at text)

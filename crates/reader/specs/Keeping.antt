@@ -17,5 +17,9 @@ literalsFrom store start kept = map literalOf (codesFrom store start kept)
 -- the number of literals kept, and the store, after one more of this code
 pub data Kept (store : List ℕ) (clause start kept code : ℕ) : ℕ → List ℕ → Type 0 where
   again : occurs (literalOf code) (literalsFrom store start kept) ≡ true → Kept store clause start kept code kept store
-  opposed : occurs (literalOf code) (literalsFrom store start kept) ≡ false → occurs (opposite (literalOf code)) (literalsFrom store start kept) ≡ true → Kept store clause start kept code (kept + 1) (set (set store (flagsAt + clause) 1) (literalsAt + kept) code)
-  new : occurs (literalOf code) (literalsFrom store start kept) ≡ false → occurs (opposite (literalOf code)) (literalsFrom store start kept) ≡ false → Kept store clause start kept code (kept + 1) (set store (literalsAt + kept) code)
+  opposed : occurs (literalOf code) (literalsFrom store start kept) ≡ false
+      → occurs (opposite (literalOf code)) (literalsFrom store start kept) ≡ true
+      → Kept store clause start kept code (kept + 1) (set (set store (flagsAt + clause) 1) (literalsAt + kept) code)
+  new : occurs (literalOf code) (literalsFrom store start kept) ≡ false
+      → occurs (opposite (literalOf code)) (literalsFrom store start kept) ≡ false
+      → Kept store clause start kept code (kept + 1) (set store (literalsAt + kept) code)

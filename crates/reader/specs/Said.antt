@@ -3,12 +3,14 @@ use Prim.Native.Nat.{ℕ}
 use mathlib.Core.Bool.{true, false, _||_}
 use mathlib.Core.List.{List}
 use mathlib.Core.Option.{Option, some, none}
+use mathlib.Core.Path.{_≡_}
 use lib.Dec.{eqb, leb, ltb}
+use lib.ListN.{length}
 use Rattle.instance.specs.Limits.{mostVariables, mostLiterals, mostWeight}
-use Rattle.instance.specs.Clause.{Literal, Weight, hard, soft, variableOf}
+use Rattle.instance.specs.Clause.{Literal, Weight, hard, soft, Clause, variableOf, totalOf}
 use Rattle.instance.specs.Store.{literalOf, weightOf}
 use Rattle.reader.specs.Numbers.{spelled, decimal}
-use Rattle.reader.specs.Words.{First, weighs, badFirst, Later, ends, holds, badLater}
+use Rattle.reader.specs.Words.{First, weighs, badFirst, firstWord, Later, ends, holds, badLater}
 use Rattle.reader.specs.declared.numbers.Number.{Number}
 use Rattle.reader.specs.declared.words.Spelled.{Spelled}
 use Rattle.reader.specs.declared.words.Opening.{Opening}
@@ -35,6 +37,11 @@ spelledAs (some (soft w)) =
 abbrev pub openingSays : Opening → First
 openingSays (Opening.Weight code) = weighs (weightOf code)
 openingSays (Opening.Fault n) = badFirst n
+
+-- what the code says of a clause's first token, after clauses of this number and total
+abbrev pub FirstSaid : List ℕ → ℕ → ℕ → Opening → Type 0
+FirstSaid t clauses total r =
+    (cs : List Clause) → clauses ≡ length cs → total ≡ totalOf cs → openingSays r ≡ firstWord cs t
 
 -- a later token that is not the end
 unfoldable pub literalSays : ℕ → Option Literal → Later

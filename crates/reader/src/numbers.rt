@@ -30,20 +30,20 @@ fn smaller(a: u64, b: u64) -> u64
 }
 
 // The value is held at one over the limit, so that digits of any number are read through.
-pub fn read_number(t: &[u8], limit: u64) -> Number
+pub fn read_number(token: &[u8], limit: u64) -> Number
     requires { ⌜ limit ≤ mostWeight ⌝ }
-    ensures { λ r. ⌜ r ≡ numberOf limit (now (t .entry)) ⌝ }
+    ensures { λ r. ⌜ r ≡ numberOf limit (now (token .entry)) ⌝ }
 {
-    if t.len() == 0 {
+    if token.len() == 0 {
         return Number::Misspelled;
     }
-    if t[0] == b'0' {
+    if token[0] == b'0' {
         return Number::Misspelled;
     }
     let mut value: u64 = 0;
     let mut i: usize = 0;
-    while i < t.len() {
-        let b = t[i];
+    while i < token.len() {
+        let b = token[i];
         if is_digit(b) {
             value = smaller(10 * value + wide(b - b'0'), limit + 1);
             i += 1;

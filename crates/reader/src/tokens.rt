@@ -16,7 +16,7 @@ fn is_inner(b: u8) -> bool
     !is_blank(b) && b != b'\n'
 }
 
-// The first place from one on that holds no blank.
+// The first place from this one on that holds no blank, or the text's length.
 pub fn past_blanks(text: &[u8], from: usize) -> usize
     requires { ⌜ from ≤ length (now text) ⌝ }
     ensures { λ r. ⌜ r ≡ past blank (now (text .entry)) from ⌝ }
@@ -32,7 +32,7 @@ pub fn past_blanks(text: &[u8], from: usize) -> usize
     i
 }
 
-// The first place from one on that holds no byte of a token.
+// The first place from this one on that holds no byte of a token, or the text's length.
 pub fn past_token(text: &[u8], from: usize) -> usize
     requires { ⌜ from ≤ length (now text) ⌝ }
     ensures { λ r. ⌜ r ≡ past inToken (now (text .entry)) from ⌝ }
@@ -48,7 +48,7 @@ pub fn past_token(text: &[u8], from: usize) -> usize
     i
 }
 
-// The end of the line that a place is on.
+// The LF of the line that this place is on, or the text's length.
 pub fn past_line(text: &[u8], from: usize) -> usize
     requires { ⌜ from ≤ length (now text) ⌝ }
     ensures { λ r. ⌜ r ≡ past inLine (now (text .entry)) from ⌝ }

@@ -1,15 +1,13 @@
 use crate::numbers::Number;
 use crate::numbers::read_number;
 use instance::Instance;
-ghost use mathlib.Core.List.{List};
 ghost use mathlib.Core.Path.{_≡_};
 ghost use Prim.Native.Nat.{_+_, _*_, _<_, _≤_};
 ghost use lib.ListN.{length};
 ghost use Rattle.instance.specs.Limits.{mostWeight};
-ghost use Rattle.instance.specs.Clause.{Clause, totalOf};
 ghost use Rattle.instance.specs.Store.{literalOf};
-ghost use Rattle.reader.specs.Words.{alone, weightSpelled, signed, firstWord, laterWord};
-ghost use Rattle.reader.specs.Said.{spelledAs, openingSays, literalSays, wordSays};
+ghost use Rattle.reader.specs.Words.{alone, weightSpelled, signed, laterWord};
+ghost use Rattle.reader.specs.Said.{spelledAs, FirstSaid, literalSays, wordSays};
 
 // A weight that is rightly spelled: its code in the store (0 is hard), and whether it is out of the limits.
 pub struct Weight {
@@ -36,28 +34,28 @@ pub enum Word {
 }
 
 // Whether a token is this one byte.
-fn is_alone(t: &[u8], byte: u8) -> bool
-    ensures { λ r. ⌜ r ≡ alone byte (now (t .entry)) ⌝ }
+fn is_alone(token: &[u8], byte: u8) -> bool
+    ensures { λ r. ⌜ r ≡ alone byte (now (token .entry)) ⌝ }
 {
-    if t.len() == 1 {
-        return t[0] == byte;
+    if token.len() == 1 {
+        return token[0] == byte;
     }
     false
 }
 
-fn weight_spelled(t: &[u8]) -> Spelled
-    ensures { λ r. ⌜ r ≡ spelledAs (weightSpelled (now (t .entry))) ⌝ }
+fn weight_spelled(token: &[u8]) -> Spelled
+    ensures { λ r. ⌜ r ≡ spelledAs (weightSpelled (now (token .entry))) ⌝ }
 {
-    if is_alone(t, b'h') {
+    if is_alone(token, b'h') {
         return Spelled::Right(Weight {
             code: 0,
             out: false,
         });
     }
-    if is_alone(t, b'0') {
+    if is_alone(token, b'0') {
         return Spelled::Right(Weight { code: 0, out: true });
     }
-    match read_number(t, Instance::WEIGHT) {
+    match read_number(token, Instance::WEIGHT) {
         Number::Value(w) => Spelled::Right(Weight {
             code: w,
             out: false,
@@ -68,11 +66,11 @@ fn weight_spelled(t: &[u8]) -> Spelled
 }
 
 // Spelling, clause count, weight, total: in this order.
-pub fn first_word(t: &[u8], clauses: usize, total: u64) -> Opening
+pub fn first_word(token: &[u8], clauses: usize, total: u64) -> Opening
     requires { ⌜ total ≤ mostWeight ⌝ }
-    ensures { λ r. ⌜ ((cs : List Clause) → clauses ≡ length cs → total ≡ totalOf cs → openingSays r ≡ firstWord cs (now (t .entry))) ⌝ }
+    ensures { λ r. ⌜ FirstSaid (now (token .entry)) clauses total r ⌝ }
 {
-    let Spelled::Right(weight) = weight_spelled(t) else {
+    let Spelled::Right(weight) = weight_spelled(token) else {
         return Opening::Fault(2);
     };
     if Instance::CLAUSES <= clauses {
@@ -104,15 +102,15 @@ fn literal(digits: &[u8], sign: u64, written: usize) -> Word
     }
 }
 
-pub fn later_word(t: &[u8], written: usize) -> Word
-    requires { ⌜ 0 < length (now t) ⌝ }
-    ensures { λ r. ⌜ wordSays r ≡ laterWord written (now (t .entry)) ⌝ }
+pub fn later_word(token: &[u8], written: usize) -> Word
+    requires { ⌜ 0 < length (now token) ⌝ }
+    ensures { λ r. ⌜ wordSays r ≡ laterWord written (now (token .entry)) ⌝ }
 {
-    if is_alone(t, b'0') {
+    if is_alone(token, b'0') {
         return Word::End;
     }
-    if t[0] == b'-' {
-        return literal(&t[1..], 1, written);
+    if token[0] == b'-' {
+        return literal(&token[1..], 1, written);
     }
-    literal(t, 0, written)
+    literal(token, 0, written)
 }

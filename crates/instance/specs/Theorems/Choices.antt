@@ -13,7 +13,8 @@ module _ {X : Type 0} (P : X → Type 0) where
   on-test true h k = h refl
   on-test false h k = k refl
 
-  pub on-option : {A : Type 0} (o : Option A) {x : X} {f : A → X} → (o ≡ none → P x) → ((a : A) → o ≡ some a → P (f a)) → P (elim o as (λ _. X) [ none ↦ x | some a ↦ f a ])
+  pub on-option : {A : Type 0} (o : Option A) {x : X} {f : A → X} → (o ≡ none → P x) → ((a : A) → o ≡ some a → P (f a))
+      → P (elim o as (λ _. X) [ none ↦ x | some a ↦ f a ])
   on-option none h k = h refl
   on-option (some a) h k = k a refl
 

@@ -41,7 +41,8 @@ different-snoc (k ∷ ks) l h n =
     let apart = neither (same l k) (occurs l ks) n in
     (occurs-snoc k ks l ∙ rw (h .0, same-sym k l) (apart .0), different-snoc ks l (h .1) (apart .1))
 
-pub tautology-snoc : (ls : List Literal) (l : Literal) → tautology (ls ++ (l ∷ [])) ≡ (occurs (opposite l) ls || tautology ls)
+pub tautology-snoc : (ls : List Literal) (l : Literal)
+    → tautology (ls ++ (l ∷ [])) ≡ (occurs (opposite l) ls || tautology ls)
 unfolding occurs tautology
 tautology-snoc [] l = refl
 tautology-snoc (k ∷ ks) l =

@@ -17,14 +17,16 @@ use Rattle.instance.specs.Theorems.Clauses.{clause-at}
 pub clauses-length : (store : List ℕ) (K : ℕ) → length (clausesIn store K) ≡ K
 unfolding clausesIn
 clauses-length store zero = refl
-clauses-length store (suc K) = omega (arith, clauses-length store K, length-append (clausesIn store K) (clauseIn store K ∷ []))
+clauses-length store (suc K) =
+    omega (arith, clauses-length store K, length-append (clausesIn store K) (clauseIn store K ∷ []))
 
 pub clauses-get : (store : List ℕ) (K k : ℕ) (d : Clause) → k < K → getD (clausesIn store K) k d ≡ clauseIn store k
 unfolding clausesIn
 clauses-get store zero k d h = absurd (omega arith)
 clauses-get store (suc K) k d h = go (ℕ-discrete k K) (clauses-get store K k d)
   where
-    go : Dec (k ≡ K) → (k < K → getD (clausesIn store K) k d ≡ clauseIn store k) → getD (clausesIn store K ++ (clauseIn store K ∷ [])) k d ≡ clauseIn store k
+    go : Dec (k ≡ K) → (k < K → getD (clausesIn store K) k d ≡ clauseIn store k)
+        → getD (clausesIn store K ++ (clauseIn store K ∷ [])) k d ≡ clauseIn store k
     go (yes e) ih = rw e (getD-at (clausesIn store K) (clauseIn store K) [] d K (clauses-length store K))
     go (no n) ih =
         let l : k < K = omega (arith, n) in
@@ -39,11 +41,14 @@ module _ {store : List ℕ} {I : Problem} (s : Stored store I) (k : ℕ) (h : k 
 
   -- what is left of the clauses at index k
   pub stored-rest : drop k (I .clauses) ≡ clauseIn store k ∷ drop (k + 1) (I .clauses)
-  stored-rest = rw add-one (drop-cons (I .clauses) k (clauseIn store k) h ∙ ap (λ (c : Clause). c ∷ drop (suc k) (I .clauses)) stored-get)
+  stored-rest =
+      rw add-one
+      (drop-cons (I .clauses) k (clauseIn store k) h ∙ ap (λ (c : Clause). c ∷ drop (suc k) (I .clauses)) stored-get)
 
 -- ---- where the literals lie
 -- the part of the store that is lent for the literals from s to e; codesIn of a clause, at its start and end
-pub codes-lent : (store : List ℕ) (s e : ℕ) → take (literalsAt + e - (literalsAt + s)) (drop (literalsAt + s) store) ≡ take (e - s) (drop (literalsAt + s) store)
+pub codes-lent : (store : List ℕ) (s e : ℕ)
+    → take (literalsAt + e - (literalsAt + s)) (drop (literalsAt + s) store) ≡ take (e - s) (drop (literalsAt + s) store)
 codes-lent store s e =
     let same : literalsAt + e - (literalsAt + s) ≡ e - s = omega arith in
     rw same

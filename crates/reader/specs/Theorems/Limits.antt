@@ -89,7 +89,8 @@ abbrev Opening : List Clause → First → Type 0
 Opening cs (weighs w) = Opens cs w
 Opening cs (badFirst n) = Unit {0}
 
-weighed-opens : (cs : List Clause) (w : Weight) → totalOf cs ≤ mostWeight → length cs < mostClauses → Opening cs (weighed cs w)
+weighed-opens : (cs : List Clause) (w : Weight) → totalOf cs ≤ mostWeight → length cs < mostClauses
+    → Opening cs (weighed cs w)
 unfolding weighed softOf
 weighed-opens cs hard light few = record { fewer = few; lighter = omega arith; weighty = tt }
 weighed-opens cs (soft w) light few =
@@ -105,7 +106,8 @@ first-opens cs t light =
     on-test (Opening cs) (leb mostClauses (length cs)) (λ _. tt) λ f.
     weighed-opens cs w light (leb-false mostClauses (length cs) f)
 
-pub first-taken : (cs : List Clause) (t : List ℕ) (w : Weight) → totalOf cs ≤ mostWeight → firstWord cs t ≡ weighs w → Opens cs w
+pub first-taken : (cs : List Clause) (t : List ℕ) (w : Weight) → totalOf cs ≤ mostWeight → firstWord cs t ≡ weighs w
+    → Opens cs w
 first-taken cs t w light e = subst (Opening cs) e (first-opens cs t light)
 
 -- what a later token was taken for
@@ -159,11 +161,14 @@ pub record Open (I : Problem) (w : Weight) (ls : List Literal) : Type 0 where
   pub fits : Every (In (I .variables)) ls
   pub different : Different ls
 
-more-clauses : (n m : ℕ) → n ≤ m → (c : Clause) → InBody n (c .body) → InBody m (c .body)
-more-clauses n m h c = go (c .body)
+in-more : (n m : ℕ) → n ≤ m → (l : Literal) → In n l → In m l
+in-more n m h l i = (i .0, omega arith)
+
+clause-in-more : (n m : ℕ) → n ≤ m → (c : Clause) → InBody n (c .body) → InBody m (c .body)
+clause-in-more n m h c = go (c .body)
   where
     go : (b : Body) → InBody n b → InBody m b
-    go (clause ls) k = every-map (In n) (In m) (λ l i. (i .0, omega arith)) ls k
+    go (clause ls) k = every-map (In n) (In m) (in-more n m h) ls k
 
 in-kept : (n : ℕ) (ls : List Literal) (l : Literal) → In n l → Every (In n) ls → Every (In n) (keptWith ls l)
 unfolding keptWith
@@ -183,8 +188,10 @@ module _ {I : Problem} {w : Weight} {ls : List Literal} (o : Open I w ls) where
   pub open-literal : {l : Literal} → Taken (I .written) l → Open (withLiteral I l) w (keptWith ls l)
   unfolding withLiteral
   open-literal {l} t =
+      let n = I .variables in
       let m = max (I .variables) (variableOf l) in
       let h = o .sound .within in
+      let In-clause : ℕ → Clause → Type 0 = λ x c. InBody x (c .body) in
       record {
         sound = record {
           within = record {
@@ -192,13 +199,13 @@ module _ {I : Problem} {w : Weight} {ls : List Literal} (o : Open I w ls) where
             few = h .few;
             many = omega (arith, t);
             light = h .light;
-            fits = every-map (λ c. InBody (I .variables) (c .body)) (λ c. InBody m (c .body)) (more-clauses (I .variables) m (omega arith)) (I .clauses) (h .fits);
+            fits = every-map (In-clause n) (In-clause m) (clause-in-more n m (omega arith)) (I .clauses) (h .fits);
             weighty = h .weighty;
           };
           different = o .sound .different;
         };
         opens = o .opens;
-        fits = in-kept m ls l (t .low, omega arith) (every-map (In (I .variables)) (In m) (λ k i. (i .0, omega arith)) ls (o .fits));
+        fits = in-kept m ls l (t .low, omega arith) (every-map (In n) (In m) (in-more n m (omega arith)) ls (o .fits));
         different = different-kept ls l (o .different);
       }
 
@@ -224,10 +231,12 @@ abbrev Gives : Reading → Type 0
 Gives (read I) = Sound I
 Gives (refused n p) = Unit {0}
 
-clause-gives : (end : ℕ) (ts : List Token) (I : Problem) (w : Weight) (ls : List Literal) → Open I w ls → Gives (clauseFrom I w ls end ts)
+clause-gives : (end : ℕ) (ts : List Token) (I : Problem) (w : Weight) (ls : List Literal) → Open I w ls
+    → Gives (clauseFrom I w ls end ts)
 unfolding clauseFrom ended
 clause-gives end [] I w ls o = tt
-clause-gives end (t ∷ ts) I w ls o = go (laterWord (I .written) (t .bytes)) (later-holds (I .written) (t .bytes)) (clause-gives end ts)
+clause-gives end (t ∷ ts) I w ls o =
+    go (laterWord (I .written) (t .bytes)) (later-holds (I .written) (t .bytes)) (clause-gives end ts)
   where
     done : (us : List Token) → Gives (ended (withClause I w ls) us)
     done [] = open-clause o
@@ -235,7 +244,11 @@ clause-gives end (t ∷ ts) I w ls o = go (laterWord (I .written) (t .bytes)) (l
 
     go : (word : Later) → Holding (I .written) word
         → ((I′ : Problem) (w′ : Weight) (ls′ : List Literal) → Open I′ w′ ls′ → Gives (clauseFrom I′ w′ ls′ end ts))
-        → Gives (elim word as (λ _. Reading) [ badLater n ↦ refused n (t .place) | ends ↦ ended (withClause I w ls) ts | holds l ↦ clauseFrom (withLiteral I l) w (keptWith ls l) end ts ])
+        → Gives (elim word as (λ _. Reading) [
+          | badLater n ↦ refused n (t .place)
+          | ends ↦ ended (withClause I w ls) ts
+          | holds l ↦ clauseFrom (withLiteral I l) w (keptWith ls l) end ts
+        ])
     go (badLater n) h rest = tt
     go ends h rest = done ts
     go (holds l) h rest = rest (withLiteral I l) w (keptWith ls l) (open-literal o h)

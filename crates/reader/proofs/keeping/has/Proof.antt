@@ -6,8 +6,9 @@ use mathlib.Core.Path.{_≡_, refl, sym, _∙_}
 use native.Mathlib.Omega.{arith}
 use borrow.Author.Needs.{needs}
 use borrow.Author.Tests.{eq-eqb, ne-eqb}
+use lib.Dec.{eqb}
 use lib.ListN.{length, getD, drop}
-use Rattle.instance.specs.Clause.{occurs}
+use Rattle.instance.specs.Clause.{same, occurs}
 use Rattle.instance.specs.Store.{literalOf}
 use Rattle.instance.specs.Theorems.Codes.{same-literals}
 use Rattle.reader.proofs.Rest.{rest-next, rest-none}
@@ -19,24 +20,26 @@ occursIn code codes = occurs (literalOf code) (map literalOf codes)
 
 record Looked (part : List ℕ) (code i : ℕ) : Type 0 where
   within : i ≤ length part
-  same : occursIn code part ≡ occursIn code (drop i part)
+  left : occursIn code part ≡ occursIn code (drop i part)
 
 module _ {part : List ℕ} {code i : ℕ} (k : Looked part code i) where
+  same-here : same (literalOf code) (literalOf (getD part i 0)) ≡ eqb code (getD part i 0)
+  same-here = same-literals code (getD part i 0)
+
   here : i < length part → getD part i 0 ≡ code → true ≡ occursIn code part
   unfolding occursIn occurs
-  here h e = sym (k .same ∙ rest-next (occursIn code) part i h ∙ rw (same-literals code (getD part i 0), eq-eqb code (getD part i 0) (sym e)))
+  here h e = sym (k .left ∙ rest-next (occursIn code) part i h ∙ rw (same-here, eq-eqb code (getD part i 0) (sym e)))
 
   further : i < length part → (getD part i 0 ≡ code → ⊥) → Looked part code (i + 1)
   unfolding occursIn occurs
-  further h n =
-      record {
-        within = omega arith;
-        same = k .same ∙ rest-next (occursIn code) part i h ∙ rw (same-literals code (getD part i 0), ne-eqb code (getD part i 0) (λ e. n (sym e)));
-      }
+  further h n = record {
+    within = omega arith;
+    left = k .left ∙ rest-next (occursIn code) part i h ∙ rw (same-here, ne-eqb code (getD part i 0) (λ e. n (sym e)));
+  }
 
   nowhere : length part ≤ i → false ≡ occursIn code part
   unfolding occursIn occurs
-  nowhere h = sym (k .same ∙ rest-none (occursIn code) part i h)
+  nowhere h = sym (k .left ∙ rest-none (occursIn code) part i h)
 
 abbrev Inv-loop : tie.InvT-loop
 Inv-loop part code i₀ i = Looked part code i
@@ -45,7 +48,7 @@ abbrev μ-loop : tie.MeasureT-loop
 μ-loop part code i₀ i = length part - i
 
 loop-holds : tie.Need-loop-holds Inv-loop μ-loop
-loop-holds c = record { within = search needs; same = refl }
+loop-holds c = record { within = search needs; left = refl }
 
 mul-if1 : tie.Need-mul-if1 Inv-loop μ-loop
 mul-if1 c = search needs

@@ -1,22 +1,38 @@
-use borrow.Author.Needs.{needs}
+-- A look at the lent part says whether the clause at work has the literal or its opposite.
 use Prim.Native.Nat.{ℕ, _+_, _-_}
 use mathlib.Core.Bool.{Bool}
 use mathlib.Core.List.{List, map}
 use mathlib.Core.Path.{_≡_, refl, sym, _∙_}
 use native.Mathlib.Omega.{arith}
+use borrow.Author.Needs.{needs}
 use lib.ListN.{take, drop, length-set}
-use Rattle.instance.specs.Clause.{Literal, occurs}
+use Rattle.instance.specs.Clause.{Literal, opposite, occurs}
 use Rattle.instance.specs.Store.{literalsAt, literalOf}
 use Rattle.instance.specs.Theorems.Store.{codes-lent}
 use Rattle.reader.specs.Keeping.{literalsFrom, again, opposed, new}
 use Rattle.reader.proofs.keeping.keep.Statement.{statement}
 use Rattle.reader.proofs.keeping.keep.Tie as tie
 
--- what a look at the lent part says of the clause at work
 looked : (store : List ℕ) (start kept code : ℕ) {l : Literal} {found answer : Bool} → literalOf code ≡ l
-    → found ≡ occurs (literalOf code) (map literalOf (take (literalsAt + kept - (literalsAt + start)) (drop (literalsAt + start) store)))
-    → found ≡ answer → occurs l (literalsFrom store start kept) ≡ answer
+    → let part = take (literalsAt + kept - (literalsAt + start)) (drop (literalsAt + start) store) in
+    found ≡ occurs (literalOf code) (map literalOf part) → found ≡ answer → occurs l (literalsFrom store start kept) ≡ answer
 looked store start kept code e f h = rw (← e, ← codes-lent store start kept) (sym f ∙ h)
+
+has-literal : (c : tie.After-has) {answer : Bool} → let a = c .before .before .before .before .args in
+    c .has .result ≡ answer → occurs (literalOf (a .code)) (literalsFrom (a .store .now) (a .start) (a .kept)) ≡ answer
+has-literal c h =
+    let a = c .before .before .before .before .args in
+    looked (a .store .now) (a .start) (a .kept) (a .code) refl (c .has .ensures) h
+
+abbrev firstOf : tie.After-has2 → tie.Else1
+firstOf c = c .before .before .before .before
+
+has-opposite : (c : tie.After-has2) {answer : Bool} → let a = firstOf c .before .before .before .before .before .args in
+    c .has2 .result ≡ answer
+    → occurs (opposite (literalOf (a .code))) (literalsFrom (a .store .now) (a .start) (a .kept)) ≡ answer
+has-opposite c h =
+    let a = firstOf c .before .before .before .before .before .args in
+    looked (a .store .now) (a .start) (a .kept) _ (c .before .opposite .ensures) (c .has2 .ensures) h
 
 add-from : tie.Need-add-from
 add-from c = search needs
@@ -43,9 +59,7 @@ same-length : tie.Need-same-length
 same-length c = search needs
 
 returns : tie.Need-returns
-returns c =
-    let a = c .before .before .before .before .before .args in
-    again (looked (a .store .now) (a .start) (a .kept) (a .code) refl (c .before .has .ensures) (c .if1 .taken))
+returns c = again (has-literal (c .before) (c .if1 .taken))
 
 mul-has-2 : tie.Need-mul-has-2
 mul-has-2 c = search needs
@@ -88,10 +102,8 @@ same-length-2 c = search needs
 
 returns-2 : tie.Need-returns-2
 returns-2 c =
-    let first = c .before .before .before .before .before in
-    let a = first .before .before .before .before .before .args in
-    opposed (looked (a .store .now) (a .start) (a .kept) (a .code) refl (first .before .has .ensures) (first .if1 .left))
-    (looked (a .store .now) (a .start) (a .kept) _ (c .before .before .opposite .ensures) (c .before .has2 .ensures) (c .if2 .taken))
+    let first = firstOf (c .before) in
+    opposed (has-literal (first .before) (first .if1 .left)) (has-opposite (c .before) (c .if2 .taken))
 
 mul-store-3 : tie.Need-mul-store-3
 mul-store-3 c = search needs
@@ -107,10 +119,8 @@ same-length-3 c = search needs
 
 returns-3 : tie.Need-returns-3
 returns-3 c =
-    let first = c .before .before .before .before .before in
-    let a = first .before .before .before .before .before .args in
-    new (looked (a .store .now) (a .start) (a .kept) (a .code) refl (first .before .has .ensures) (first .if1 .left))
-    (looked (a .store .now) (a .start) (a .kept) _ (c .before .before .opposite .ensures) (c .before .has2 .ensures) (c .if2 .left))
+    let first = firstOf (c .before) in
+    new (has-literal (first .before) (first .if1 .left)) (has-opposite (c .before) (c .if2 .left))
 
 pub keep-spec : {M : Type 1} → statement M
 keep-spec =

@@ -4,15 +4,26 @@ use mathlib.Core.Path.{sym, _∙_}
 use native.Mathlib.Omega.{arith}
 use borrow.Author.Needs.{needs}
 use lib.ListN.{length}
-use Rattle.reader.proofs.Digits.{ReadTo, digit-low, spelled-nil, spelled-zero, read-none, read-more, read-other, read-all, read-worth, number-misspelled, number-over, number-value}
+use Rattle.reader.proofs.Digits.{
+  digit-low,
+  spelled-nil,
+  spelled-zero,
+  number-misspelled,
+  ReadTo,
+  read-none,
+  read-more,
+  read-other,
+  read-over,
+  read-value,
+}
 use Rattle.reader.proofs.numbers.read_number.Statement.{statement}
 use Rattle.reader.proofs.numbers.read_number.Tie as tie
 
 abbrev Inv-loop : tie.InvT-loop
-Inv-loop t limit value₀ i₀ value i = ReadTo t limit value i
+Inv-loop token limit value₀ i₀ value i = ReadTo token limit value i
 
 abbrev μ-loop : tie.MeasureT-loop
-μ-loop t limit value₀ i₀ value i = length t - i
+μ-loop token limit value₀ i₀ value i = length token - i
 
 returns : tie.Need-returns Inv-loop μ-loop
 returns c = number-misspelled _ _ (spelled-nil _ (c .if1 .taken))
@@ -42,7 +53,8 @@ wide-requires : tie.Need-wide-requires Inv-loop μ-loop
 wide-requires c κs = search needs
 
 add-smaller : tie.Need-add-smaller Inv-loop μ-loop
-add-smaller c = omega (arith, c .before .before .before .shared-slice-known3 .given (c .before .before .before .before .before .loop .i))
+add-smaller c =
+    omega (arith, c .before .before .before .shared-slice-known3 .given (c .before .before .before .before .before .loop .i))
 
 add-smaller-2 : tie.Need-add-smaller-2 Inv-loop μ-loop
 add-smaller-2 c = search needs
@@ -65,19 +77,18 @@ loop-again c =
 returns-3 : tie.Need-returns-3 Inv-loop μ-loop
 returns-3 c =
     let at = c .before .before .before .before in
-    number-misspelled _ _ (read-other (at .loop .inv) (at .before .before .before .if1 .left) (at .before .if2 .left) (search needs) (sym (c .before .is-digit .ensures) ∙ c .if3 .left))
+    read-other (at .loop .inv) (at .before .before .before .if1 .left) (at .before .if2 .left) (search needs)
+    (sym (c .before .is-digit .ensures) ∙ c .if3 .left)
 
 returns-4 : tie.Need-returns-4 Inv-loop μ-loop
 returns-4 c =
     let at = c .before .before in
-    number-over _ _ (read-all (at .loop .inv) (at .before .before .before .if1 .left) (at .before .if2 .left) (search needs))
-    (omega (arith, read-worth (at .loop .inv) (search needs)))
+    read-over (at .loop .inv) (at .before .before .before .if1 .left) (at .before .if2 .left) (search needs) (c .if4 .taken)
 
 returns-5 : tie.Need-returns-5 Inv-loop μ-loop
 returns-5 c =
     let at = c .before .before in
-    number-value _ _ _ (read-all (at .loop .inv) (at .before .before .before .if1 .left) (at .before .if2 .left) (search needs))
-    (omega (arith, read-worth (at .loop .inv) (search needs))) (search needs)
+    read-value (at .loop .inv) (at .before .before .before .if1 .left) (at .before .if2 .left) (search needs) (c .if4 .left)
 
 pub read-number-spec : {M : Type 1} → statement M
 read-number-spec =

@@ -17,7 +17,8 @@ too-small : (text store : List ℕ) → length store < storeSize → SurveyAnswe
 unfolding returned
 too-small text store h = record { answer = rw (ample-no storeSize store h); after = rw (ample-no storeSize store h) }
 
-surveyed : (text store later last : List ℕ) (r : Surveyed) → storeSize ≤ length store → ReadAnswers text store r later → last ≡ cleared storeSize later → SurveyAnswers text store r last
+surveyed : (text store later last : List ℕ) (r : Surveyed) → storeSize ≤ length store → ReadAnswers text store r later
+    → last ≡ cleared storeSize later → SurveyAnswers text store r last
 unfolding returned
 surveyed text store later last r h a e = record {
   answer = rw (ample-yes storeSize store h) (a .answer);

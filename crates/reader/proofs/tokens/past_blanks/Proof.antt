@@ -30,10 +30,14 @@ loop-less : tie.Need-loop-less Inv-loop μ-loop
 loop-less c = search needs
 
 loop-again : tie.Need-loop-again Inv-loop μ-loop
-loop-again c = passed-more blank (c .before .before .before .before .loop .inv) (search needs) (sym (c .before .is-blank .ensures) ∙ c .if1 .taken)
+loop-again c =
+    passed-more blank (c .before .before .before .before .loop .inv) (search needs)
+    (sym (c .before .is-blank .ensures) ∙ c .if1 .taken)
 
 returns : tie.Need-returns Inv-loop μ-loop
-returns c = passed-stop blank (c .before .before .before .before .loop .inv) (search needs) (sym (c .before .is-blank .ensures) ∙ c .if1 .left)
+returns c =
+    passed-stop blank (c .before .before .before .before .loop .inv) (search needs)
+    (sym (c .before .is-blank .ensures) ∙ c .if1 .left)
 
 returns-2 : tie.Need-returns-2 Inv-loop μ-loop
 returns-2 c = passed-end blank (c .before .loop .inv) (search needs)

@@ -23,7 +23,8 @@ shared-slice-read-if1 c = search needs
 
 returns : tie.Need-returns Inv-loop μ-loop
 unfolding inLine
-returns c = passed-stop inLine (c .before .before .before .loop .inv) (search needs) (rw (eq-eqb _ lineFeed (c .if1 .taken), inLine))
+returns c =
+    passed-stop inLine (c .before .before .before .loop .inv) (search needs) (rw (eq-eqb _ lineFeed (c .if1 .taken), inLine))
 
 add-i : tie.Need-add-i Inv-loop μ-loop
 add-i c = search needs
@@ -33,7 +34,8 @@ loop-less c = search needs
 
 loop-again : tie.Need-loop-again Inv-loop μ-loop
 unfolding inLine
-loop-again c = passed-more inLine (c .before .before .before .loop .inv) (search needs) (rw (ne-eqb _ lineFeed (c .if1 .left), inLine))
+loop-again c =
+    passed-more inLine (c .before .before .before .loop .inv) (search needs) (rw (ne-eqb _ lineFeed (c .if1 .left), inLine))
 
 returns-2 : tie.Need-returns-2 Inv-loop μ-loop
 returns-2 c = passed-end inLine (c .before .loop .inv) (search needs)

@@ -9,12 +9,13 @@ use Rattle.instance.specs.Clause.{Clause, totalOf}
 use Rattle.reader.specs.Words.{firstWord}
 use Rattle.reader.specs.declared.words.Spelled.{Spelled}
 use Rattle.reader.specs.declared.words.Weight as declared
-use Rattle.reader.proofs.Says.{firstBy, first-many, first-out, first-over, first-weighs, first-says, spelled-light}
+use Rattle.reader.proofs.FirstWords.{firstBy, first-many, first-out, first-over, first-weighs, first-says, spelled-light}
 use Rattle.reader.proofs.words.first_word.Statement.{statement}
 use Rattle.reader.proofs.words.first_word.Tie as tie
 
-by-spelling : (c : tie.After-weight-spelled) (cs : List Clause) → c .before .before .args .clauses ≡ length cs → c .before .before .args .total ≡ totalOf cs → (s : Spelled) → c .weight-spelled .result ≡ s
-    → firstBy (c .before .before .args .clauses) (c .before .before .args .total) s ≡ firstWord cs (c .before .before .args .t .now)
+by-spelling : (c : tie.After-weight-spelled) → let a = c .before .before .args in (cs : List Clause) → a .clauses ≡ length cs
+    → a .total ≡ totalOf cs → (s : Spelled) → c .weight-spelled .result ≡ s
+    → firstBy (a .clauses) (a .total) s ≡ firstWord cs (a .token .now)
 by-spelling c cs k m s e =
     ap₂ (λ (a b : ℕ). firstBy a b s) k m
     ∙ ap (firstBy (length cs) (totalOf cs)) (sym e ∙ c .weight-spelled .ensures)
@@ -24,8 +25,9 @@ by-spelling c cs k m s e =
 abbrev weightOf : tie.After-known-told → declared.Weight
 weightOf c = c .before .weight .given .0 .0
 
-by-weight : (c : tie.After-known-told) (cs : List Clause) → c .before .before .before .before .before .args .clauses ≡ length cs → c .before .before .before .before .before .args .total ≡ totalOf cs
-    → firstBy (c .before .before .before .before .before .args .clauses) (c .before .before .before .before .before .args .total) (Spelled.Right (weightOf c)) ≡ firstWord cs (c .before .before .before .before .before .args .t .now)
+by-weight : (c : tie.After-known-told) → let a = c .before .before .before .before .before .args in (cs : List Clause)
+    → a .clauses ≡ length cs → a .total ≡ totalOf cs
+    → firstBy (a .clauses) (a .total) (Spelled.Right (weightOf c)) ≡ firstWord cs (a .token .now)
 by-weight c cs k m = by-spelling (c .before .before .before) cs k m (Spelled.Right (weightOf c)) (c .before .weight .given .1)
 
 weight-spelled-requires : tie.Need-weight-spelled-requires
@@ -52,7 +54,8 @@ add-if3 : tie.Need-add-if3
 add-if3 c =
     let w = c .before .before .before in
     let spelling = w .before .before .before in
-    omega (arith, spelled-light _ (weightOf w) (sym (spelling .weight-spelled .ensures) ∙ w .before .weight .given .1), spelling .before .before .pre)
+    let light = spelled-light _ (weightOf w) (sym (spelling .weight-spelled .ensures) ∙ w .before .weight .given .1) in
+    omega (arith, light, spelling .before .before .pre)
 
 returns-4 : tie.Need-returns-4
 returns-4 c cs k m =

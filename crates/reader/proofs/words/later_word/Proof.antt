@@ -1,8 +1,15 @@
-use mathlib.Core.Path.{sym, _∙_}
+-- Each answer is what `laterWord` says of the token: its end, or a literal of a sign.
+use mathlib.Core.Bool.{false}
+use mathlib.Core.Path.{_≡_, sym, _∙_}
 use borrow.Author.Needs.{needs}
-use Rattle.reader.proofs.Says.{later-ends, later-minus, later-plain}
+use Rattle.reader.specs.Numbers.{zeroDigit}
+use Rattle.reader.specs.Words.{alone}
+use Rattle.reader.proofs.LaterWords.{later-ends, later-minus, later-plain}
 use Rattle.reader.proofs.words.later_word.Statement.{statement}
 use Rattle.reader.proofs.words.later_word.Tie as tie
+
+not-end : (c : tie.Else1) → alone zeroDigit (c .before .before .before .args .token .now) ≡ false
+not-end c = sym (c .before .is-alone .ensures) ∙ c .if1 .left
 
 is-alone-requires : tie.Need-is-alone-requires
 is-alone-requires c κs = search needs
@@ -28,7 +35,7 @@ literal-requires c κs = search needs
 returns-2 : tie.Need-returns-2
 returns-2 c =
     let more = c .before .before .before .before in
-    c .literal .ensures ∙ later-minus _ _ (sym (more .before .is-alone .ensures) ∙ more .if1 .left) (more .before .before .before .pre) (c .before .before .if2 .taken)
+    c .literal .ensures ∙ later-minus _ _ (not-end more) (more .before .before .before .pre) (c .before .before .if2 .taken)
 
 literal-requires-2 : tie.Need-literal-requires-2
 literal-requires-2 c κs = search needs
@@ -36,7 +43,7 @@ literal-requires-2 c κs = search needs
 returns-3 : tie.Need-returns-3
 returns-3 c =
     let more = c .before .before .before in
-    c .literal2 .ensures ∙ later-plain _ _ (sym (more .before .is-alone .ensures) ∙ more .if1 .left) (more .before .before .before .pre) (c .before .if2 .left)
+    c .literal2 .ensures ∙ later-plain _ _ (not-end more) (more .before .before .before .pre) (c .before .if2 .left)
 
 pub later-word-spec : {M : Type 1} → statement M
 later-word-spec =

@@ -1,3 +1,4 @@
+-- Each answer is what the number says of a literal of this sign.
 use Prim.Native.Nat.{_≤_}
 use mathlib.Core.Path.{_≡_, sym, ap, _∙_}
 use native.Mathlib.Omega.{arith}
@@ -6,13 +7,17 @@ use Rattle.instance.specs.Limits.{mostVariables}
 use Rattle.reader.specs.Words.{signed}
 use Rattle.reader.specs.Said.{literalSays}
 use Rattle.reader.specs.declared.numbers.Number.{Number}
-use Rattle.reader.proofs.Says.{coded, literalBy, number-below, literal-many, literal-few, literal-says, code-variable}
+use Rattle.reader.proofs.Digits.{number-below}
+use Rattle.reader.proofs.LaterWords.{literalBy, literal-many, literal-few, literal-says, coded, coded-variable}
 use Rattle.reader.proofs.words.literal.Statement.{statement}
 use Rattle.reader.proofs.words.literal.Tie as tie
 
--- what the number says
-by-number : (c : tie.After-read-number) (n : Number) → c .read-number .result ≡ n → literalBy (c .before .before .args .written) (coded (c .before .before .args .sign)) n ≡ literalSays (c .before .before .args .written) (signed (coded (c .before .before .args .sign)) (c .before .before .args .digits .now))
-by-number c n e = ap (literalBy _ _) (sym e ∙ c .read-number .ensures) ∙ sym (literal-says _ _ _ (code-variable _ (c .before .before .pre)))
+by-number : (c : tie.After-read-number) → let a = c .before .before .args in (n : Number) → c .read-number .result ≡ n
+    → literalBy (a .written) (coded (a .sign)) n ≡ literalSays (a .written) (signed (coded (a .sign)) (a .digits .now))
+by-number c n e =
+    let a = c .before .before .args in
+    ap (literalBy (a .written) (coded (a .sign))) (sym e ∙ c .read-number .ensures)
+    ∙ literal-says (a .written) (coded (a .sign)) (coded-variable (a .sign) (c .before .before .pre)) (a .digits .now)
 
 low : (c : tie.After-x) → c .x .given .0 .0 ≤ mostVariables
 low c = number-below mostVariables _ _ (sym (c .before .before .read-number .ensures) ∙ c .x .given .1)
@@ -32,8 +37,8 @@ enum-known-x c = search needs
 returns : tie.Need-returns
 returns c =
     let x = c .before .before .x .given in
-    let a = c .before .before .before .before .before .before .args in
-    literal-many (a .written) (coded (a .sign)) (x .0 .0) (c .if1 .taken) ∙ by-number (c .before .before .before .before) _ (x .1)
+    let number = c .before .before .before .before in
+    literal-many _ (coded (number .before .before .args .sign)) (x .0 .0) (c .if1 .taken) ∙ by-number number _ (x .1)
 
 mul-t8 : tie.Need-mul-t8
 mul-t8 c = omega (arith, low (c .before .before))
@@ -50,8 +55,8 @@ returns-3 c = by-number (c .before .before) _ (c .enum-told2 .given .1)
 returns-4 : tie.Need-returns-4
 returns-4 c =
     let x = c .before .before .x .given in
-    let a = c .before .before .before .before .before .before .args in
-    literal-few (a .written) (coded (a .sign)) (x .0 .0) (c .if1 .left) ∙ by-number (c .before .before .before .before) _ (x .1)
+    let number = c .before .before .before .before in
+    literal-few _ (coded (number .before .before .args .sign)) (x .0 .0) (c .if1 .left) ∙ by-number number _ (x .1)
 
 pub literal-spec : {M : Type 1} → statement M
 literal-spec =
