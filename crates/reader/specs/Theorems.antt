@@ -1,2 +1,3 @@
 -- Laws about what a text is read as, for the proofs of the layers above.
 pub mod Limits
+pub mod Answers
