@@ -2,6 +2,7 @@
 mod files;
 mod judge;
 mod space;
+
 use files::Loaded;
 use files::load;
 use judge::judge_series;

@@ -9,7 +9,7 @@ use lib.Dec.{eqb}
 use lib.ListN.{length, getD, take, drop, set}
 use lib.Seq.{drop-cons}
 use Rattle.instance.specs.Limits.{mostClauses, mostWeight}
-use Rattle.instance.specs.Clause.{Clause, Problem, tautology, totalOf}
+use Rattle.instance.specs.Clause.{Problem, tautology, totalOf}
 use Rattle.instance.specs.Store.{weightsAt, flagsAt, weightOf, flagOf}
 use Rattle.instance.specs.declared.Instance.{Instance}
 use Rattle.instance.specs.declared.answers.Surveyed.{Surveyed}

@@ -7,7 +7,7 @@ use lib.ListN.{take, drop, set}
 use Rattle.instance.specs.Clause.{Literal, opposite, occurs}
 use Rattle.instance.specs.Store.{flagsAt, literalsAt, literalOf}
 
--- the codes of a clause at work, whose literals begin at `start` and of whose `kept` are kept so far
+-- the codes of the clause at work: of the literals kept so far, its own begin at `start`
 abbrev pub codesFrom : List ℕ → ℕ → ℕ → List ℕ
 codesFrom store start kept = take (kept - start) (drop (literalsAt + start) store)
 

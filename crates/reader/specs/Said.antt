@@ -16,7 +16,7 @@ use Rattle.reader.specs.declared.words.Spelled.{Spelled}
 use Rattle.reader.specs.declared.words.Opening.{Opening}
 use Rattle.reader.specs.declared.words.Word.{Word}
 
--- a number with no more than a limit
+-- a token as a number of at most a limit
 unfoldable pub numberOf : ℕ → List ℕ → Number
 numberOf limit t =
     elim (spelled t) [

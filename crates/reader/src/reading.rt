@@ -31,6 +31,7 @@ pub fn read(text: &[u8], store: &mut [u64]) -> Surveyed
     ensures { λ r. ⌜ ReadAnswers (now (text .entry)) (now (store .entry)) r (now (store .exit)) ⌝ }
 {
     let mut counted = nothing();
+    // literals of all clauses in the store
     let mut kept: usize = 0;
     let mut i: usize = 0;
     'text: loop {
