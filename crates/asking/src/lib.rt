@@ -1,3 +1,5 @@
+#![tactic(auto)]
+
 // Questions as they come on standard input: bytes, numbers of four bytes, and arguments with their length in front.
 mod arguments;
 mod numbers;

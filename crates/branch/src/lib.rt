@@ -1,3 +1,5 @@
+#![tactic(auto)]
+
 // The branch in cells: root, contradiction, extension and closing, each as the calculus has it.
 mod contradiction;
 mod extension;

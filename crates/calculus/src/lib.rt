@@ -1,3 +1,5 @@
+#![tactic(auto)]
+
 // A record of a derivation after its claim: extend the clause of this number, contradict at this variable, or close the
 // branch and go to the next.
 #[derive(Drop)]

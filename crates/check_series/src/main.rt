@@ -1,3 +1,5 @@
+#![tactic(auto)]
+
 // The program `check`: reads series.wcnf, series.asg and series.prf in the current folder, and prints one line.
 mod files;
 mod judge;

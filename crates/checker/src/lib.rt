@@ -1,3 +1,5 @@
+#![tactic(auto)]
+
 // The walk over a derivation: its records, the extensions with branches still to visit, and the answer.
 mod frames;
 mod records;

@@ -1,3 +1,5 @@
+#![tactic(auto)]
+
 // What every layer shares: the instance record with its limits, the refusal, the answers, the sizes of the lent memory.
 mod answers;
 mod memory;

@@ -12,6 +12,7 @@ pub enum Stage {
 }
 
 // The one place where a number gets its stage.
+#[tactic(auto, unfolding(crate::specs::Refusals::staged))]
 pub fn refusal(number: u64, place: usize) -> Stage
     ensures { result ≡ staged number place }
 {

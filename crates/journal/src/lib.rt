@@ -1,3 +1,5 @@
+#![tactic(auto)]
+
 // Cells with an undo log: every store keeps what it stores over, so that the cells can go back to any height of the log.
 ghost use Rattle.std.specs.Prelude.{◌≡◌, ◌+◌, ◌*◌, ◌<◌, ◌≤◌, length};
 ghost use Rattle.journal.specs.Undo.{Places, Put, rewound};

@@ -1,3 +1,5 @@
+#![tactic(auto)]
+
 // Reading an instance text: its tokens, their numbers, what each says where it stands, and the store that it is laid into.
 mod counting;
 mod keeping;

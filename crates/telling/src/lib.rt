@@ -1,3 +1,5 @@
+#![tactic(auto)]
+
 // The lines that the programs print on standard output.
 mod forms;
 

@@ -1,3 +1,5 @@
+#![tactic(auto)]
+
 // What assignments are worth, and which of two is the cheaper.
 mod choosing;
 mod falsify;

@@ -1,3 +1,5 @@
+#![tactic(auto)]
+
 // Check: the text, the claim, the assignment, and then the records of a derivation.
 mod checking;
 mod claims;
