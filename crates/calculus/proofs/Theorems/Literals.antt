@@ -7,8 +7,8 @@ use Rattle.instance.specs.Clause.{Literal, pos, neg, variable_of, same, opposite
 use Rattle.instance.specs.Meaning.{Assignment, holds}
 use Rattle.instance.specs.Within.{In}
 use Rattle.calculus.specs.Branch.{Branch, set_weight, mark}
-use Rattle.calculus.specs.Theorems.Basics.{clash, false_unless, due}
-use Rattle.calculus.specs.Theorems.Sum.{sum_to, sum_to_same, sum_to_at, sum_to_zero}
+use Rattle.calculus.proofs.Theorems.Basics.{clash, false_unless, due}
+use Rattle.calculus.proofs.Theorems.Sum.{sum_to, sum_to_same, sum_to_at, sum_to_zero}
 
 pub same_true : (k l : Literal) → same k l ≡ true → k ≡ l
 unfolding same

@@ -8,11 +8,11 @@ use Rattle.instance.specs.Clause.{Weight, hard, soft, Body, Clause}
 use Rattle.instance.specs.Meaning.{Assignment, holds, broken, fine, feasible, priced, cost}
 use Rattle.instance.specs.Within.{Every, InBody}
 use Rattle.calculus.specs.Branch.{Branch, blank, gain, numbered, enter, root_from, root}
-use Rattle.calculus.specs.Theorems.Basics.{clash, due, due_zero}
-use Rattle.calculus.specs.Theorems.Sum.{fold}
-use Rattle.calculus.specs.Theorems.Literals.{lit_sum_zero}
-use Rattle.calculus.specs.Theorems.Worth.{toll, charge, bill, unit_toll, units, raw, worth, Adds, raw_keep, adds_gain}
-use Rattle.calculus.specs.Theorems.Fair.{Sane, sane_keep, sane_gain}
+use Rattle.calculus.proofs.Theorems.Basics.{clash, due, due_zero}
+use Rattle.calculus.proofs.Theorems.Sum.{fold}
+use Rattle.calculus.proofs.Theorems.Literals.{lit_sum_zero}
+use Rattle.calculus.proofs.Theorems.Worth.{toll, charge, bill, unit_toll, units, raw, worth, Adds, raw_keep, adds_gain}
+use Rattle.calculus.proofs.Theorems.Fair.{Sane, sane_keep, sane_gain}
 
 -- Every clause's variables are among 1 to n.
 abbrev pub Covered : ℕ → List Clause → Type 0

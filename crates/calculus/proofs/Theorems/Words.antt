@@ -13,17 +13,17 @@ use Rattle.instance.specs.declared.answers.Claim.{Claim}
 use Rattle.calculus.specs.declared.Record.{Record}
 use Rattle.calculus.specs.Branch.{Branch, with_rules, put_at, put, root, extend, contradict}
 use Rattle.calculus.specs.Paths.{Path}
-use Rattle.calculus.specs.Theorems.Basics.{every_weaken, every_join}
-use Rattle.calculus.specs.Theorems.Cases.{Contradiction, contradiction, Extension, extension}
-use Rattle.calculus.specs.Theorems.Steps.{Stepped, closed, contradicted, extended}
-use Rattle.calculus.specs.Theorems.Fair.{Sane}
-use Rattle.calculus.specs.Theorems.Extension.{extend_fair}
-use Rattle.calculus.specs.Theorems.Contradiction.{contradict_fair}
-use Rattle.calculus.specs.Theorems.Paths.{path_kept, path_sane}
-use Rattle.calculus.specs.Theorems.Reckoned.{reckoned, MeetsMarks, Admits, raw_admits, Kept, kept_in_one, extend_unlowered}
-use Rattle.calculus.specs.Theorems.Root.{root_worth, bill_cost, sane_root}
-use Rattle.calculus.specs.Theorems.Sound.{stepped_sane}
-use Rattle.calculus.specs.Theorems.Unchanged.{Gained, contradiction_leaves, extension_leaves}
+use Rattle.calculus.proofs.Theorems.Basics.{every_weaken, every_join}
+use Rattle.calculus.proofs.Theorems.Cases.{Contradiction, contradiction, Extension, extension}
+use Rattle.calculus.proofs.Theorems.Steps.{Stepped, closed, contradicted, extended}
+use Rattle.calculus.proofs.Theorems.Fair.{Sane}
+use Rattle.calculus.proofs.Theorems.Extension.{extend_fair}
+use Rattle.calculus.proofs.Theorems.Contradiction.{contradict_fair}
+use Rattle.calculus.proofs.Theorems.Paths.{path_kept, path_sane}
+use Rattle.calculus.proofs.Theorems.Reckoned.{reckoned, MeetsMarks, Admits, raw_admits, Kept, kept_in_one, extend_unlowered}
+use Rattle.calculus.proofs.Theorems.Root.{root_worth, bill_cost, sane_root}
+use Rattle.calculus.proofs.Theorems.Sound.{stepped_sane}
+use Rattle.calculus.proofs.Theorems.Unchanged.{Gained, contradiction_leaves, extension_leaves}
 
 -- an assignment "that meets all hard clauses and the path's hard marks"
 pub record Meets (I : Problem) (σ : Assignment) (b : Branch) : Type 0 where

@@ -5,7 +5,7 @@ use Rattle.std.proofs.Math.Option.{some}
 use Rattle.instance.specs.Clause.{Literal, Weight, hard, soft, Clause, same}
 use Rattle.instance.specs.Within.{Every}
 use Rattle.calculus.specs.Branch.{Branch, set_weight, mark, book, kill, put, unit_of, nothing}
-use Rattle.calculus.specs.Theorems.Cases.{Contradiction, both_hard, one_hard, both_soft, Extension, opens, branches_each}
+use Rattle.calculus.proofs.Theorems.Cases.{Contradiction, both_hard, one_hard, both_soft, Extension, opens, branches_each}
 
 -- a contradiction: the clauses and the marks
 pub record Settled (b d : Branch) : Type 0 where

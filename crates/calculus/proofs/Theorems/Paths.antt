@@ -8,15 +8,15 @@ use Rattle.calculus.specs.declared.Record.{Record}
 use Rattle.calculus.specs.declared.Record.TheVariants.{E, C}
 use Rattle.calculus.specs.Branch.{Branch, root, put}
 use Rattle.calculus.specs.Paths.{Path, start, extends, contradicts}
-use Rattle.calculus.specs.Theorems.Basics.{every_among, every_join}
-use Rattle.calculus.specs.Theorems.Fair.{Sane}
-use Rattle.calculus.specs.Theorems.Leaves.{remaining, extension_remaining}
-use Rattle.calculus.specs.Theorems.Numbers.{Full, root_count, stepped_full}
-use Rattle.calculus.specs.Theorems.Potential.{potential, remaining_potential, contradict_potential, extend_potential, root_potential}
-use Rattle.calculus.specs.Theorems.Root.{sane_root}
-use Rattle.calculus.specs.Theorems.Sound.{stepped_sane}
-use Rattle.calculus.specs.Theorems.Steps.{Stepped, contradicted, extended, went}
-use Rattle.calculus.specs.Theorems.Unchanged.{Gained, contradiction_leaves, extension_leaves}
+use Rattle.calculus.proofs.Theorems.Basics.{every_among, every_join}
+use Rattle.calculus.proofs.Theorems.Fair.{Sane}
+use Rattle.calculus.proofs.Theorems.Leaves.{remaining, extension_remaining}
+use Rattle.calculus.proofs.Theorems.Numbers.{Full, root_count, stepped_full}
+use Rattle.calculus.proofs.Theorems.Potential.{potential, remaining_potential, contradict_potential, extend_potential, root_potential}
+use Rattle.calculus.proofs.Theorems.Root.{sane_root}
+use Rattle.calculus.proofs.Theorems.Sound.{stepped_sane}
+use Rattle.calculus.proofs.Theorems.Steps.{Stepped, contradicted, extended, went}
+use Rattle.calculus.proofs.Theorems.Unchanged.{Gained, contradiction_leaves, extension_leaves}
 
 module _ (I : Problem) (k : Claim) where
   -- what holds at the root and is kept by every record

@@ -23,10 +23,10 @@ use Rattle.calculus.specs.Branch.{
   root,
 }
 use Rattle.calculus.specs.Writing.{wrote, write_from}
-use Rattle.calculus.specs.Theorems.Basics.{every_append, every_weaken, clause_at_range}
-use Rattle.calculus.specs.Theorems.Steps.{Stepped, closed, contradicted, extended}
-use Rattle.calculus.specs.Theorems.Unchanged.{Gained, nothing_leaves, unit_leaves, contradiction_leaves, extension_leaves}
-use Rattle.calculus.specs.Theorems.Written.{wrote_kept}
+use Rattle.calculus.proofs.Theorems.Basics.{every_append, every_weaken, clause_at_range}
+use Rattle.calculus.proofs.Theorems.Steps.{Stepped, closed, contradicted, extended}
+use Rattle.calculus.proofs.Theorems.Unchanged.{Gained, nothing_leaves, unit_leaves, contradiction_leaves, extension_leaves}
+use Rattle.calculus.proofs.Theorems.Written.{wrote_kept}
 
 -- ---- the root
 keep_count : (w : Weight) (p : Body) (b : Branch) → length (keep w p b).rules ≡ suc (length b.rules)

@@ -53,6 +53,7 @@ module _ {A : Type 0} where
   every_all P (x ∷ xs) h = (h x (Among.head refl), every_all P xs (λ y m. h y (Among.tail m)))
 
   pub every_among : (P : A → Type 0) {x : A} (xs : List A) → Every P xs → Among x xs → P x
+  every_among P [] h m = elim m [ ]
   every_among P (y ∷ ys) h (Among.head e) = subst P (sym e) h.0
   every_among P (y ∷ ys) h (Among.tail m) = every_among P ys h.1 m
 

@@ -16,8 +16,8 @@ use Rattle.calculus.specs.Branch.{Branch, extend, contradict}
 use Rattle.calculus.specs.Claims.{Below}
 use Rattle.calculus.specs.Derivation.{Step, stop, go, closable, closing, offered, settled, step}
 use Rattle.calculus.specs.Writing.{from, candidates, Move, first}
-use Rattle.calculus.specs.Theorems.Basics.{tests, or-false, clause_at_range}
-use Rattle.calculus.specs.Theorems.Steps.{step_contradicts, step_extends}
+use Rattle.calculus.proofs.Theorems.Basics.{tests, or-false, clause_at_range}
+use Rattle.calculus.proofs.Theorems.Steps.{step_contradicts, step_extends}
 
 abbrev Stops : Step → Type 0
 Stops (stop e) = Unit {0}

@@ -29,13 +29,13 @@ use Rattle.calculus.specs.Branch.{
   root,
   spent,
 }
-use Rattle.calculus.specs.Theorems.Basics.{due, due_true, due_false, every_among}
-use Rattle.calculus.specs.Theorems.Sum.{fold}
-use Rattle.calculus.specs.Theorems.Literals.{lit_sum, lit_sum_zero, lit_sum_pair, lit_sum_ge, lit_sum_weight, lit_sum_mark}
-use Rattle.calculus.specs.Theorems.Fair.{Sane, literals_in_lem}
-use Rattle.calculus.specs.Theorems.Leaves.{remaining, remaining_put, remaining_keep, remaining_spent}
-use Rattle.calculus.specs.Theorems.Root.{Covered}
-use Rattle.calculus.specs.Theorems.Cases.{Dies, Takes, Contradiction, both_hard, one_hard, both_soft, Extension, opens, branches_each}
+use Rattle.calculus.proofs.Theorems.Basics.{due, due_true, due_false, every_among}
+use Rattle.calculus.proofs.Theorems.Sum.{fold}
+use Rattle.calculus.proofs.Theorems.Literals.{lit_sum, lit_sum_zero, lit_sum_pair, lit_sum_ge, lit_sum_weight, lit_sum_mark}
+use Rattle.calculus.proofs.Theorems.Fair.{Sane, literals_in_lem}
+use Rattle.calculus.proofs.Theorems.Leaves.{remaining, remaining_put, remaining_keep, remaining_spent}
+use Rattle.calculus.proofs.Theorems.Root.{Covered}
+use Rattle.calculus.proofs.Theorems.Cases.{Dies, Takes, Contradiction, both_hard, one_hard, both_soft, Extension, opens, branches_each}
 
 -- 1 for a weight
 positive : ℕ → ℕ

@@ -18,7 +18,7 @@ use Rattle.calculus.specs.Branch.{Branch}
 use Rattle.calculus.specs.Bounds.{bytes_of}
 use Rattle.calculus.specs.Derivation.{whole, size, Step, stop, go, step, walk}
 use Rattle.calculus.specs.Writing.{candidates, Move, first, Draft, wrote, no_room, stuck, also, write_from}
-use Rattle.calculus.specs.Theorems.Steps.{Stepped, OnGo, stepped}
+use Rattle.calculus.proofs.Theorems.Steps.{Stepped, OnGo, stepped}
 
 -- ---- the move that is chosen is a step
 pub record Chosen (I : Problem) (k : Claim) (b : Branch) (m : Move) : Type 0 where
@@ -158,7 +158,7 @@ module _ (I : Problem) (k : Claim) (room : ℕ) where
 
   pub write_roomed : (fuel at : ℕ) (bs : List Branch) → at ≤ room → Roomed at (write_from I k fuel room at bs)
   write_roomed = write_kept (λ fuel at bs. at ≤ room) (λ at bs. Roomed at) (record {
-    end = λ fuel at h. unfold bytes_of in (omega arith);
+    end = λ fuel at h. nothing_more at h;
     dry = λ at b bs h. omega arith;
     full = λ fuel at b bs m h d l. omega arith;
     halt = λ fuel at b bs h e. tt;
@@ -166,6 +166,9 @@ module _ (I : Problem) (k : Claim) (room : ℕ) where
     more = λ fuel at b bs m h d l. one_more at m.chosen;
   })
     where
+      nothing_more : (at : ℕ) → at ≤ room → Roomed at (wrote [])
+      nothing_more at h = unfold bytes_of in (omega arith)
+
       one_more : (at : ℕ) (r : Record) (w : Draft) → Roomed (at + size r) w → Roomed at (also r w)
       one_more at r (wrote rs) h = unfold also bytes_of in (omega arith)
       one_more at r (no_room a) h = unfold also in (omega arith)

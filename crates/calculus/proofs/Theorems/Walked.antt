@@ -10,7 +10,7 @@ use Rattle.instance.specs.declared.refusals.Stage.{Stage}
 use Rattle.calculus.specs.declared.Record.{Record}
 use Rattle.calculus.specs.Branch.{Branch}
 use Rattle.calculus.specs.Derivation.{Item, whole, other, size, Step, stop, go, step, walk}
-use Rattle.calculus.specs.Theorems.Steps.{Stepped, OnGo, stepped}
+use Rattle.calculus.proofs.Theorems.Steps.{Stepped, OnGo, stepped}
 
 -- Inv holds of the open branches; P of what is left to take, the records taken, the open branches, and the answer.
 pub record Walked (I : Problem) (k : Claim)

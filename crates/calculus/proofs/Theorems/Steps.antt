@@ -13,8 +13,8 @@ use Rattle.calculus.specs.declared.Record.{Record}
 use Rattle.calculus.specs.declared.Record.TheVariants.{E, C, Q}
 use Rattle.calculus.specs.Branch.{Branch, extend, contradict}
 use Rattle.calculus.specs.Derivation.{Step, stop, go, closable, closing, offered, extending, settled, contradicting, step}
-use Rattle.calculus.specs.Theorems.Basics.{clash}
-use Rattle.calculus.specs.Theorems.Cases.{Contradiction, contradiction, Extension, extension}
+use Rattle.calculus.proofs.Theorems.Basics.{clash}
+use Rattle.calculus.proofs.Theorems.Cases.{Contradiction, contradiction, Extension, extension}
 
 pub data Stepped (I : Problem) (k : Claim) (b : Branch) : Record → List Branch → Type 0 where
   closed : closable k b ≡ true → Stepped I k b Q []

@@ -6,7 +6,7 @@ use Rattle.std.proofs.Math.Path.{refl, ap}
 use Rattle.instance.specs.Clause.{Literal, pos, neg, Weight, hard, soft, Body, clause, Clause, variable_of}
 use Rattle.instance.specs.Meaning.{Assignment, holds, falsified, broken, fine, feasible, cost}
 use Rattle.instance.specs.Within.{Every, In, InBody}
-use Rattle.calculus.specs.Theorems.Root.{Covered}
+use Rattle.calculus.proofs.Theorems.Root.{Covered}
 
 module _ (n : ℕ) (σ τ : Assignment) (agree : (x : ℕ) → 1 ≤ x → x ≤ n → σ x ≡ τ x) where
   holds_agree : (l : Literal) → In n l → holds σ l ≡ holds τ l

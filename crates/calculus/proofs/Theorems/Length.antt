@@ -19,19 +19,19 @@ use Rattle.calculus.specs.Branch.{Branch, put, root}
 use Rattle.calculus.specs.Claims.{True, Refutes}
 use Rattle.calculus.specs.Derivation.{whole, size, walk}
 use Rattle.calculus.specs.Writing.{Draft, wrote, no_room, stuck, also, write_from, found}
-use Rattle.calculus.specs.Theorems.Basics.{clash, every_append, every_weaken}
-use Rattle.calculus.specs.Theorems.Sum.{fold, sum_of, sum_append}
-use Rattle.calculus.specs.Theorems.Fair.{Sane}
-use Rattle.calculus.specs.Theorems.Leaves.{leaves, Parted, extension_parts, leaves_some, root_leaves}
-use Rattle.calculus.specs.Theorems.Numbers.{write_range}
-use Rattle.calculus.specs.Theorems.Potential.{potential, contradict_potential, extend_potential, root_potential}
-use Rattle.calculus.specs.Theorems.Root.{sane_root}
-use Rattle.calculus.specs.Theorems.Sound.{stepped_sane}
-use Rattle.calculus.specs.Theorems.Cases.{Extension}
-use Rattle.calculus.specs.Theorems.Steps.{Stepped, closed, contradicted, extended}
-use Rattle.calculus.specs.Theorems.Stuck.{stuck_refutes}
-use Rattle.calculus.specs.Theorems.Unchanged.{Gained, contradiction_leaves, extension_leaves}
-use Rattle.calculus.specs.Theorems.Written.{size_some, write_kept, wrote_kept, write_accepted}
+use Rattle.calculus.proofs.Theorems.Basics.{clash, every_append, every_weaken}
+use Rattle.calculus.proofs.Theorems.Sum.{fold, sum_of, sum_append}
+use Rattle.calculus.proofs.Theorems.Fair.{Sane}
+use Rattle.calculus.proofs.Theorems.Leaves.{leaves, Parted, extension_parts, leaves_some, root_leaves}
+use Rattle.calculus.proofs.Theorems.Numbers.{write_range}
+use Rattle.calculus.proofs.Theorems.Potential.{potential, contradict_potential, extend_potential, root_potential}
+use Rattle.calculus.proofs.Theorems.Root.{sane_root}
+use Rattle.calculus.proofs.Theorems.Sound.{stepped_sane}
+use Rattle.calculus.proofs.Theorems.Cases.{Extension}
+use Rattle.calculus.proofs.Theorems.Steps.{Stepped, closed, contradicted, extended}
+use Rattle.calculus.proofs.Theorems.Stuck.{stuck_refutes}
+use Rattle.calculus.proofs.Theorems.Unchanged.{Gained, contradiction_leaves, extension_leaves}
+use Rattle.calculus.proofs.Theorems.Written.{size_some, write_kept, wrote_kept, write_accepted}
 
 -- A record's fee: a for E and C, 1 for Q. With a = 1 fees count the records, with a = 3 the bytes.
 fee : ℕ → Record → ℕ

@@ -11,9 +11,9 @@ use Rattle.std.proofs.Math.ListN.{length}
 use Rattle.instance.specs.Clause.{Literal, Weight, soft, Body, clause, Clause, tautology, clause_at}
 use Rattle.calculus.specs.Bounds.{branching, count_of, product_of}
 use Rattle.calculus.specs.Branch.{Branch, blank, with_rules, keep, put_at, put, unit_of, nothing, gain, several, numbered, enter, root_from, root, spent, branches}
-use Rattle.calculus.specs.Theorems.Sum.{fold, fold_snoc, fold_put}
-use Rattle.calculus.specs.Theorems.Cases.{single, Extension, opens}
-use Rattle.calculus.specs.Theorems.Unchanged.{nothing_leaves, unit_leaves}
+use Rattle.calculus.proofs.Theorems.Sum.{fold, fold_snoc, fold_put}
+use Rattle.calculus.proofs.Theorems.Cases.{single, Extension, opens}
+use Rattle.calculus.proofs.Theorems.Unchanged.{nothing_leaves, unit_leaves}
 
 -- what a clause counts, and z where it is spent
 unfoldable pub unspent : ℕ → (Body → ℕ) → Clause → ℕ

@@ -16,14 +16,14 @@ use Rattle.calculus.specs.declared.Record.{Record}
 use Rattle.calculus.specs.Branch.{Branch, root}
 use Rattle.calculus.specs.Claims.{True}
 use Rattle.calculus.specs.Derivation.{Item, closable, walk}
-use Rattle.calculus.specs.Theorems.Basics.{tests, or_second, every_append}
-use Rattle.calculus.specs.Theorems.Worth.{bill, raw, least, raw_booked, raw_dead}
-use Rattle.calculus.specs.Theorems.Fair.{Sane, Fair}
-use Rattle.calculus.specs.Theorems.Extension.{extend_fair}
-use Rattle.calculus.specs.Theorems.Contradiction.{contradict_fair}
-use Rattle.calculus.specs.Theorems.Root.{root_worth, bill_cost, sane_root}
-use Rattle.calculus.specs.Theorems.Steps.{Stepped, closed, contradicted, extended}
-use Rattle.calculus.specs.Theorems.Walked.{walk_kept}
+use Rattle.calculus.proofs.Theorems.Basics.{tests, or_second, every_append}
+use Rattle.calculus.proofs.Theorems.Worth.{bill, raw, least, raw_booked, raw_dead}
+use Rattle.calculus.proofs.Theorems.Fair.{Sane, Fair}
+use Rattle.calculus.proofs.Theorems.Extension.{extend_fair}
+use Rattle.calculus.proofs.Theorems.Contradiction.{contradict_fair}
+use Rattle.calculus.proofs.Theorems.Root.{root_worth, bill_cost, sane_root}
+use Rattle.calculus.proofs.Theorems.Steps.{Stepped, closed, contradicted, extended}
+use Rattle.calculus.proofs.Theorems.Walked.{walk_kept}
 
 -- the caps that serve a claim: m under M, any under N
 abbrev pub Caps : Claim → ℕ → Type 0

@@ -31,15 +31,15 @@ use Rattle.calculus.specs.Branch.{
   root,
 }
 use Rattle.calculus.specs.Paths.{Path}
-use Rattle.calculus.specs.Theorems.Basics.{every_among, every_join}
-use Rattle.calculus.specs.Theorems.Sum.{fold, sum_of, fold_snoc, fold_put}
-use Rattle.calculus.specs.Theorems.Literals.{lit_sum, lit_sum_zero, lit_sum_pair, lit_sum_ge, lit_sum_weight}
-use Rattle.calculus.specs.Theorems.Fair.{Sane, literals_in_lem}
-use Rattle.calculus.specs.Theorems.Paths.{path_kept}
-use Rattle.calculus.specs.Theorems.Root.{Covered, sane_root}
-use Rattle.calculus.specs.Theorems.Sound.{stepped_sane}
-use Rattle.calculus.specs.Theorems.Cases.{Takes, Contradiction, both_hard, one_hard, both_soft, Extension, opens, branches_each}
-use Rattle.calculus.specs.Theorems.Steps.{Stepped, closed, contradicted, extended}
+use Rattle.calculus.proofs.Theorems.Basics.{every_among, every_join}
+use Rattle.calculus.proofs.Theorems.Sum.{fold, sum_of, fold_snoc, fold_put}
+use Rattle.calculus.proofs.Theorems.Literals.{lit_sum, lit_sum_zero, lit_sum_pair, lit_sum_ge, lit_sum_weight}
+use Rattle.calculus.proofs.Theorems.Fair.{Sane, literals_in_lem}
+use Rattle.calculus.proofs.Theorems.Paths.{path_kept}
+use Rattle.calculus.proofs.Theorems.Root.{Covered, sane_root}
+use Rattle.calculus.proofs.Theorems.Sound.{stepped_sane}
+use Rattle.calculus.proofs.Theorems.Cases.{Takes, Contradiction, both_hard, one_hard, both_soft, Extension, opens, branches_each}
+use Rattle.calculus.proofs.Theorems.Steps.{Stepped, closed, contradicted, extended}
 
 unfoldable pub mass : ℕ → Branch → ℕ
 mass n b = b.booked + lit_sum n b.weight + total_of b.rules

@@ -9,10 +9,10 @@ use Rattle.instance.specs.Clause.{Literal, Weight, soft, Clause, clause_at}
 use Rattle.instance.specs.Meaning.{Assignment, holds, falsified, broken}
 use Rattle.instance.specs.Within.{Every, In}
 use Rattle.calculus.specs.Branch.{Branch, put, unit_of, gain, several, numbered, branches}
-use Rattle.calculus.specs.Theorems.Basics.{due, due_zero}
-use Rattle.calculus.specs.Theorems.Cases.{single, Extension, opens, branches_each}
-use Rattle.calculus.specs.Theorems.Worth.{toll, charge, raw, worth, least, raw_put, adds_unit}
-use Rattle.calculus.specs.Theorems.Fair.{Sane, Fair, literals_in_lem, sane_unit, sane_put}
+use Rattle.calculus.proofs.Theorems.Basics.{due, due_zero}
+use Rattle.calculus.proofs.Theorems.Cases.{single, Extension, opens, branches_each}
+use Rattle.calculus.proofs.Theorems.Worth.{toll, charge, raw, worth, least, raw_put, adds_unit}
+use Rattle.calculus.proofs.Theorems.Fair.{Sane, Fair, literals_in_lem, sane_unit, sane_put}
 
 module _ (H n : ℕ) where
   -- of the branches that gain a literal each, the least gains what the clause comes to

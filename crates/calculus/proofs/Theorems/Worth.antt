@@ -13,10 +13,10 @@ use Rattle.instance.specs.Clause.{Literal, Weight, hard, soft, Body, clause, Cla
 use Rattle.instance.specs.Meaning.{Assignment, holds, falsified, broken}
 use Rattle.instance.specs.Within.{In, InBody}
 use Rattle.calculus.specs.Branch.{Branch, set_weight, mark, book, kill, with_rules, keep, put, unit_of, nothing, gain}
-use Rattle.calculus.specs.Theorems.Basics.{due}
-use Rattle.calculus.specs.Theorems.Sum.{sum_of, fold_snoc, fold_put}
-use Rattle.calculus.specs.Theorems.Literals.{opposite_holds, lit_sum, lit_sum_pair, lit_sum_ge, lit_sum_weight, lit_sum_mark}
-use Rattle.calculus.specs.Theorems.Cases.{Takes}
+use Rattle.calculus.proofs.Theorems.Basics.{due}
+use Rattle.calculus.proofs.Theorems.Sum.{sum_of, fold_snoc, fold_put}
+use Rattle.calculus.proofs.Theorems.Literals.{opposite_holds, lit_sum, lit_sum_pair, lit_sum_ge, lit_sum_weight, lit_sum_mark}
+use Rattle.calculus.proofs.Theorems.Cases.{Takes}
 
 -- what a falsified clause comes to
 unfoldable pub toll : ℕ → Weight → ℕ
@@ -50,6 +50,7 @@ least H n σ (b ∷ bs) = min (worth H n σ b) (least H n σ bs)
 module _ (H n : ℕ) (σ : Assignment) where
   pub least_among : {d : Branch} (bs : List Branch) → Among d bs → least H n σ bs ≤ worth H n σ d
   unfolding least
+  least_among {d = d} [] m = elim m [ ]
   least_among (b ∷ bs) (Among.head e) = subst (λ x. least H n σ (b ∷ bs) ≤ worth H n σ x) (sym e) (omega arith)
   least_among (b ∷ bs) (Among.tail m) = omega (arith, least_among bs m)
 

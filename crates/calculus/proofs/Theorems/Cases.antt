@@ -26,8 +26,8 @@ use Rattle.calculus.specs.Branch.{
   contradict_by,
   contradict,
 }
-use Rattle.calculus.specs.Theorems.Basics.{tests}
-use Rattle.calculus.specs.Theorems.Literals.{opposite_apart, set_own, set_other}
+use Rattle.calculus.proofs.Theorems.Basics.{tests}
+use Rattle.calculus.proofs.Theorems.Literals.{opposite_apart, set_own, set_other}
 
 -- ---- a contradiction
 -- d is b, dead

@@ -6,7 +6,7 @@ use Rattle.std.proofs.Math.Path.{refl, sym}
 use Rattle.std.proofs.Common.{◌∙◌}
 use Rattle.instance.specs.Clause.{Literal, same, opposite, occurs, tautology}
 use Rattle.instance.specs.Meaning.{Assignment, holds, falsified}
-use Rattle.calculus.specs.Theorems.Literals.{same_true, opposite_holds}
+use Rattle.calculus.proofs.Theorems.Literals.{same_true, opposite_holds}
 
 module _ (σ : Assignment) where
   occurs_holds : (k : Literal) (ls : List Literal) → occurs k ls ≡ true → holds σ k ≡ true → falsified σ ls ≡ false

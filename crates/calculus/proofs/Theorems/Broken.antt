@@ -6,7 +6,7 @@ use Rattle.std.proofs.Math.Path.{refl}
 use Rattle.std.proofs.Common.{arith}
 use Rattle.instance.specs.Clause.{Clause}
 use Rattle.instance.specs.Meaning.{Assignment, fine, feasible, first_broken_from, first_broken}
-use Rattle.calculus.specs.Theorems.Basics.{clash}
+use Rattle.calculus.proofs.Theorems.Basics.{clash}
 
 module _ (σ : Assignment) where
   none_broken : (i : ℕ) (cs : List Clause) → 1 ≤ i → (first_broken_from i σ cs ≡ 0) ↔ (feasible σ cs ≡ true)

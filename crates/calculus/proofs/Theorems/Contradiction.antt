@@ -7,11 +7,11 @@ use Rattle.instance.specs.Clause.{Literal, pos, neg, variable_of, opposite}
 use Rattle.instance.specs.Meaning.{Assignment, holds}
 use Rattle.instance.specs.Within.{Every, In}
 use Rattle.calculus.specs.Branch.{Branch}
-use Rattle.calculus.specs.Theorems.Basics.{due}
-use Rattle.calculus.specs.Theorems.Literals.{opposite_holds, opposite_in}
-use Rattle.calculus.specs.Theorems.Cases.{Dies, Takes, Contradiction, both_hard, one_hard, both_soft}
-use Rattle.calculus.specs.Theorems.Worth.{raw, worth, least, raw_dead, raw_marked, raw_takes}
-use Rattle.calculus.specs.Theorems.Fair.{Whole, Sane, Fair}
+use Rattle.calculus.proofs.Theorems.Basics.{due}
+use Rattle.calculus.proofs.Theorems.Literals.{opposite_holds, opposite_in}
+use Rattle.calculus.proofs.Theorems.Cases.{Dies, Takes, Contradiction, both_hard, one_hard, both_soft}
+use Rattle.calculus.proofs.Theorems.Worth.{raw, worth, least, raw_dead, raw_marked, raw_takes}
+use Rattle.calculus.proofs.Theorems.Fair.{Whole, Sane, Fair}
 
 module _ (H n : ℕ) where
   -- both literals hard: no assignment meets both marks

@@ -24,8 +24,8 @@ use Rattle.calculus.specs.Branch.{
   several,
   numbered,
 }
-use Rattle.calculus.specs.Theorems.Basics.{clash, every_append, every_at}
-use Rattle.calculus.specs.Theorems.Worth.{worth, least}
+use Rattle.calculus.proofs.Theorems.Basics.{clash, every_append, every_at}
+use Rattle.calculus.proofs.Theorems.Worth.{worth, least}
 
 -- A clause of a branch: its variables are among 1 to n, and it is spent if it has fewer than two literals.
 pub record Whole (n : ℕ) (c : Clause) : Type 0 where

@@ -13,13 +13,13 @@ use Rattle.instance.specs.Clause.{Literal, Weight, hard, soft, Clause, clause_at
 use Rattle.instance.specs.Meaning.{Assignment, holds, falsified, broken, feasible, priced, cost}
 use Rattle.instance.specs.Within.{Every, In}
 use Rattle.calculus.specs.Branch.{Branch, set_weight, mark, with_rules, put_at, put, unit_of}
-use Rattle.calculus.specs.Theorems.Basics.{clash, due, due_false, every_among, every_weaken}
-use Rattle.calculus.specs.Theorems.Sum.{fold, sum_of, fold_put}
-use Rattle.calculus.specs.Theorems.Literals.{lit_sum, lit_sum_same, lit_sum_weight}
-use Rattle.calculus.specs.Theorems.Cases.{Extension, opens, branches_each}
-use Rattle.calculus.specs.Theorems.Worth.{bill, unit_toll, units, raw, worth, least, raw_marked}
-use Rattle.calculus.specs.Theorems.Fair.{Sane, Fair, literals_in_lem}
-use Rattle.calculus.specs.Theorems.Root.{bill_cost, bill_feasible}
+use Rattle.calculus.proofs.Theorems.Basics.{clash, due, due_false, every_among, every_weaken}
+use Rattle.calculus.proofs.Theorems.Sum.{fold, sum_of, fold_put}
+use Rattle.calculus.proofs.Theorems.Literals.{lit_sum, lit_sum_same, lit_sum_weight}
+use Rattle.calculus.proofs.Theorems.Cases.{Extension, opens, branches_each}
+use Rattle.calculus.proofs.Theorems.Worth.{bill, unit_toll, units, raw, worth, least, raw_marked}
+use Rattle.calculus.proofs.Theorems.Fair.{Sane, Fair, literals_in_lem}
+use Rattle.calculus.proofs.Theorems.Root.{bill_cost, bill_feasible}
 
 -- "Live weight is that of units and of unextended soft clauses with two or more literals": shorter and extended ones are spent.
 unfoldable pub live : ℕ → Assignment → Branch → ℕ
@@ -176,5 +176,10 @@ extend_unlowered n σ b i c bs s e (opens l k ks q t u) =
     ls : List Literal
     ls = l ∷ k ∷ ks
 
+    price : price_of σ c ≡ priced c.weight (falsified σ ls)
+    price = unfold price_of broken in (rw q refl)
+
     prices : Every (λ j. price_of σ c ≤ priced c.weight (not (holds σ j))) ls
-    prices = unfold price_of broken in (rw q (literal_price σ c.weight ls))
+    prices =
+        every_weaken (λ j (h : priced c.weight (falsified σ ls) ≤ priced c.weight (not (holds σ j))). rw price h) ls
+        (literal_price σ c.weight ls)

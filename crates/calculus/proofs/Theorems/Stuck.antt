@@ -13,18 +13,18 @@ use Rattle.calculus.specs.declared.Record.{Record}
 use Rattle.calculus.specs.Branch.{Branch, numbered, spent, root}
 use Rattle.calculus.specs.Claims.{Below, Refutes}
 use Rattle.calculus.specs.Writing.{candidates, first, Draft, wrote, no_room, stuck, also, write_from, found}
-use Rattle.calculus.specs.Theorems.Basics.{tests, or-false, or_second, clash, due, due_false, due_zero, every_append, every_among, every_all, every_at, every_of}
-use Rattle.calculus.specs.Theorems.Sum.{sum_zero}
-use Rattle.calculus.specs.Theorems.Literals.{lit_sum_zero}
-use Rattle.calculus.specs.Theorems.Tautology.{tautology_holds}
-use Rattle.calculus.specs.Theorems.Choice.{Stuck, Choice, finds, choice}
-use Rattle.calculus.specs.Theorems.Cases.{Contradiction, no_weight, no_pair, contradiction, Extension, over, short, twofold, extension}
-use Rattle.calculus.specs.Theorems.Steps.{Stepped}
-use Rattle.calculus.specs.Theorems.Worth.{toll, charge, bill, unit_toll, units, raw, worth, least_among}
-use Rattle.calculus.specs.Theorems.Fair.{Whole, Sane}
-use Rattle.calculus.specs.Theorems.Root.{root_worth, bill_cost, bill_feasible, sane_root}
-use Rattle.calculus.specs.Theorems.Sound.{Caps, stepped_fair, stepped_sane}
-use Rattle.calculus.specs.Theorems.Written.{write_kept}
+use Rattle.calculus.proofs.Theorems.Basics.{tests, or-false, or_second, clash, due, due_false, due_zero, every_append, every_among, every_all, every_at, every_of}
+use Rattle.calculus.proofs.Theorems.Sum.{sum_zero}
+use Rattle.calculus.proofs.Theorems.Literals.{lit_sum_zero}
+use Rattle.calculus.proofs.Theorems.Tautology.{tautology_holds}
+use Rattle.calculus.proofs.Theorems.Choice.{Stuck, Choice, finds, choice}
+use Rattle.calculus.proofs.Theorems.Cases.{Contradiction, no_weight, no_pair, contradiction, Extension, over, short, twofold, extension}
+use Rattle.calculus.proofs.Theorems.Steps.{Stepped}
+use Rattle.calculus.proofs.Theorems.Worth.{toll, charge, bill, unit_toll, units, raw, worth, least_among}
+use Rattle.calculus.proofs.Theorems.Fair.{Whole, Sane}
+use Rattle.calculus.proofs.Theorems.Root.{root_worth, bill_cost, bill_feasible, sane_root}
+use Rattle.calculus.proofs.Theorems.Sound.{Caps, stepped_fair, stepped_sane}
+use Rattle.calculus.proofs.Theorems.Written.{write_kept}
 
 -- ---- the layout found
 found_true : (b : Branch) (x : ℕ) → found b x ≡ true → b.marked (pos x) ≡ false → 0 < b.weight (pos x)
