@@ -1,11 +1,6 @@
 -- The single changes of a branch, each a store into one cell.
-use Prim.Native.Nat.{ℕ, suc, ◌+◌, ◌<◌}
-use native.Mathlib.Omega.{arith}
-use native.Mathlib.Decide.{ℕ_discrete}
-use mathlib.Core.Bool.{Bool, true, false, not, ◌||◌}
-use mathlib.Core.List.{List, [], ◌∷◌, ◌++◌}
-use mathlib.Core.Path.{◌≡◌, refl, ap, sym, ◌∙◌}
-use lib.ListN.{length, set}
+use Rattle.std.proofs.Common.{ℕ, suc, ◌+◌, ◌<◌, arith, Bool, true, false, not, ◌||◌, List, [], ◌∷◌, ◌++◌, ◌≡◌, refl, ap, sym, ◌∙◌, length, set}
+use Rattle.std.proofs.Math.Decide.{ℕ_discrete}
 use Rattle.instance.specs.Limits.{most_variables, most_clauses}
 use Rattle.instance.specs.Clause.{Literal, same, soft, Clause}
 use Rattle.instance.specs.Within.{In}

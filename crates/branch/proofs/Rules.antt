@@ -1,10 +1,5 @@
 -- What each rule leaves of the room: the entries, the extensions and the weight to come.
-use Prim.Native.Nat.{ℕ, zero, suc, ◌+◌, ◌<◌, ◌≤◌}
-use mathlib.Core.Bool.{true, false, not}
-use mathlib.Core.List.{List}
-use mathlib.Core.Path.{◌≡◌, refl, ap, ◌∙◌}
-use native.Mathlib.Omega.{arith}
-use lib.ListN.{set}
+use Rattle.std.proofs.Common.{ℕ, zero, suc, ◌+◌, ◌<◌, ◌≤◌, true, false, not, List, ◌≡◌, refl, ap, ◌∙◌, arith, set}
 use Rattle.instance.specs.Limits.{most_variables, most_clauses, most_weight}
 use Rattle.instance.specs.Clause.{Literal, soft, Clause}
 use Rattle.instance.specs.Within.{In}
