@@ -1,5 +1,5 @@
 -- A contradiction: its stores, case by case, as the calculus has them.
-use Rattle.std.proofs.Common.{ℕ, zero, suc, ◌+◌, ◌*◌, ◌-◌, ◌<◌, ◌≤◌, min, Bool, true, false, ◌&&◌, List, ◌≡◌, refl, ap, sym, subst, ◌∙◌, arith, eqb-true, lt-ltb, le-ltb, eqb, ltb, length, get_or, set, length-set, get_or-set_other}
+use Rattle.std.proofs.Common.{ℕ, zero, suc, ◌+◌, ◌*◌, ◌-◌, ◌<◌, ◌≤◌, min, Bool, true, false, ◌&&◌, List, ◌≡◌, refl, ap, sym, ◌∙◌, arith, lt-ltb, le-ltb, eqb, length, get_or, set, length-set, get_or-set_other}
 use Rattle.std.proofs.Math.Option.{Option, some, none}
 use Rattle.std.proofs.Math.Decide.{dec_lt, ℕ_discrete}
 use Rattle.std.proofs.Math.Seq.{set-get_or}
@@ -8,10 +8,10 @@ use Rattle.instance.specs.Memory.{cells_size, log_size}
 use Rattle.instance.specs.Clause.{Literal, pos, neg, same, variable_of, Clause}
 use Rattle.instance.specs.Within.{In}
 use Rattle.instance.specs.Store.{code_of, flag_of}
-use Rattle.journal.specs.Undo.{Put, Later}
+use Rattle.journal.specs.Undo.{Put}
 use Rattle.journal.specs.Theorems.Stores.{later_put, later_join}
 use Rattle.calculus.specs.Branch.{Branch, set_weight, book, kill, spend, cancel_by, contradict_by, contradict}
-use Rattle.branch.specs.Cells.{Cell, booked, dead, weight, booked_at, dead_at, marks_at, at, held}
+use Rattle.branch.specs.Cells.{Cell, booked, weight, booked_at, dead_at, marks_at, at}
 use Rattle.branch.specs.Shows.{Shows}
 use Rattle.branch.specs.Works.{sum, entries_of, extensions_of, weights_of, most_entries, Works}
 use Rattle.branch.specs.Contradictions.{Settles, Settled, settled_in, Clashed}

@@ -1,5 +1,5 @@
 -- What the cells say of the branch that they show.
-use Rattle.std.proofs.Common.{ℕ, ◌+◌, ◌<◌, Bool, true, false, not, ◌||◌, List, ◌≡◌, refl, ap, sym, ◌∙◌, eq-eqb, ne_eqb, eqb, leb, get_or}
+use Rattle.std.proofs.Common.{ℕ, ◌+◌, ◌<◌, Bool, true, false, not, List, ◌≡◌, refl, ap, sym, ◌∙◌, eq-eqb, ne_eqb, eqb, leb, get_or}
 use Rattle.instance.specs.Limits.{most_variables, most_clauses}
 use Rattle.instance.specs.Clause.{Literal, Clause}
 use Rattle.instance.specs.Within.{In}

@@ -1,18 +1,18 @@
 -- The root, one clause after another.
-use Rattle.std.proofs.Common.{ℕ, zero, suc, ◌+◌, ◌*◌, ◌-◌, ◌<◌, ◌≤◌, Bool, true, false, not, ◌&&◌, List, [], ◌∷◌, ◌++◌, map, ◌≡◌, refl, ap, sym, ◌∙◌, arith, eqb, length, get_or, set, take, drop}
+use Rattle.std.proofs.Common.{ℕ, zero, suc, ◌+◌, ◌-◌, ◌<◌, ◌≤◌, Bool, true, false, not, ◌&&◌, List, [], ◌∷◌, ◌++◌, map, ◌≡◌, refl, ap, sym, ◌∙◌, arith, length, get_or, set, take, drop}
 use Rattle.std.proofs.Math.Option.{Option, some, none}
 use Rattle.std.proofs.Math.Decide.{ℕ_discrete}
 use Rattle.std.proofs.Math.Dec.{eqb-suc-zero}
 use Rattle.instance.specs.Limits.{most_variables, most_clauses, most_weight}
 use Rattle.instance.specs.Memory.{cells_size}
-use Rattle.instance.specs.Clause.{Literal, Weight, hard, soft, Body, clause, Clause, Problem, tautology, soft_of, total_of, clause_at}
+use Rattle.instance.specs.Clause.{Literal, Weight, soft, Body, clause, Clause, Problem, tautology, soft_of, total_of}
 use Rattle.instance.specs.Store.{weights_at, flags_at, literals_at, literal_of, code_of, weight_of, flag_of, start_in, end_in, codes_in, literals_in, clause_in, clauses_in, Stored}
 use Rattle.calculus.specs.Branch.{Branch, blank, kill, keep, unit_of, nothing, gain, several, numbered, enter, root_from, root, spent, disjuncts, unless}
 use Rattle.branch.specs.Cells.{Cell, booked, dead, weight, marked, shut, booked_at, dead_at, marks_at, shuts_at, at, Real, held}
 use Rattle.branch.specs.Shows.{is_some, extendable, open_in, has, Left, Shows}
 use Rattle.branch.specs.Works.{sum, entries_of, extensions_of, weights_of, soft_at, Works}
 use Rattle.branch.specs.Extensions.{Coded}
-use Rattle.branch.specs.Roots.{Filled, given, Rooted, Rooting}
+use Rattle.branch.specs.Roots.{Filled, given, Rooting}
 use Rattle.branch.specs.Theorems.Stored.{count_in, part_cons, soft_weight_lem, clause_low, soft_stored, literal_coded}
 use Rattle.branch.proofs.Literals.{code_literal, code_range}
 use Rattle.branch.proofs.Stores.{sum_part, sum_set, sum_none}

@@ -1,4 +1,4 @@
-use Rattle.std.proofs.Common.{◌+◌, ◌*◌, ◌≤◌, sym, ◌∙◌, get_or, arith}
+use Rattle.std.proofs.Common.{sym, ◌∙◌, arith}
 use Rattle.branch.proofs.Rules.{kill_room}
 use Rattle.branch.proofs.Contradicting.{booked_most, clash_small, clash_room, clash_dead, clash_nothing, clash_settled}
 use Rattle.branch.proofs.contradiction.contradict.Goals as goal

@@ -1,5 +1,4 @@
-use Rattle.std.proofs.Common.{ℕ, suc, ◌+◌, ◌-◌, ◌<◌, ◌≤◌, List, ◌≡◌, ap, sym, ◌∙◌, length, get_or, arith}
-use Rattle.instance.specs.Limits.{most_literals}
+use Rattle.std.proofs.Common.{ℕ, ◌+◌, ◌<◌, ◌≤◌, List, ◌≡◌, sym, ◌∙◌, length, get_or, arith}
 use Rattle.instance.specs.Store.{literals_at, start_in, end_in}
 use Rattle.instance.specs.Clause.{Problem}
 use Rattle.branch.specs.Extensions.{Coded}

@@ -1,5 +1,5 @@
 -- the cells are filled up to i
-use Rattle.std.proofs.Common.{ℕ, ◌-◌, ◌≤◌, List}
+use Rattle.std.proofs.Common.{◌-◌, ◌≤◌}
 use Rattle.branch.specs.Roots.{Filled}
 use Rattle.branch.proofs.start.fill.Given as goal
 

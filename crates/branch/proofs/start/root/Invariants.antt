@@ -8,7 +8,6 @@ use Rattle.branch.proofs.start.root.Given as goal
 abbrev pub invariant-loop-c : goal.invariant-loop-c
 invariant-loop-c l = record {
   up_to : l.c ≤ l.k;
-  size : length l.cells ≡ length l.initial.cells;
   rooting : (I : Problem) → Stored l.store I → l.k ≡ length I.clauses → Rooting l.store I l.c l.cells;
 }
 
