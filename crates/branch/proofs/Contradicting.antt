@@ -48,7 +48,7 @@ booked_most a b p q s h = go (ℕ_discrete p 1) (ℕ_discrete q 1)
     go : Dec (p ≡ 1) → Dec (q ≡ 1) → s.booked ≤ a + b
     go (yes e) u = omega (arith, (h.first_hard e).0)
     go (no n) (yes e) = omega (arith, (h.second_hard n e).0)
-    go (no n) (no m) = omega (arith, (h.both_soft_lem n m).0)
+    go (no n) (no m) = omega (arith, (h.both_soft n m).0)
 
 -- ---- the entries of a weight
 some_entries : (l : Literal) (v : ℕ) → 0 < v → entries_of (weight l) v ≡ 3
@@ -289,7 +289,7 @@ module _ (x : ℕ) (lo : 1 ≤ x) (hi : x ≤ most_variables) (cs : List Clause)
         go true false e st = let (eb, ef, es) = st.first_hard refl in meets_first eb ef es
         go false true e st = let (eb, ef, es) = st.second_hard (λ z. omega arith) refl in meets_second eb ef es
         go false false e st =
-            let (eb, ef, es) = st.both_soft_lem (λ z. omega arith) (λ z. omega arith) in
+            let (eb, ef, es) = st.both_soft (λ z. omega arith) (λ z. omega arith) in
             meets_both eb ef es
 
     -- ---- the answers
