@@ -4,4 +4,3 @@ pub mod Writing
 pub mod Claims
 pub mod Bounds
 pub mod Paths
-pub mod Theorems

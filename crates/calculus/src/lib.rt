@@ -2,7 +2,7 @@
 
 // A record of a derivation after its claim: extend the clause of this number, contradict at this variable, or close the
 // branch and go to the next.
-#[derive(Drop)]
+#[derive(Clone, Copy)]
 pub enum Record {
     E(usize),
     C(usize),

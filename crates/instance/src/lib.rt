@@ -15,7 +15,7 @@ pub use workspaces::{CELLS, FOUND, FRAMES, LINKS, LOG, STORE};
 
 // What an instance text says of itself: the largest variable number written (0 if none), the clauses, the literals as
 // written, and the total soft weight.
-#[derive(Drop)]
+#[derive(Clone, Copy)]
 pub struct Instance {
     pub variables: u64,
     pub clauses: usize,

@@ -2,7 +2,7 @@ ghost use Rattle.std.specs.Prelude.{◌≡◌};
 ghost use Rattle.instance.specs.Refusals.{staged};
 
 // A refusal: its stage and, inside, its number and its place.
-#[derive(Drop)]
+#[derive(Clone, Copy)]
 pub enum Stage {
     Memory(u64, usize),
     Text(u64, usize),

@@ -26,7 +26,7 @@ better_of text first second = chosen (value_of text first) (value_of text second
 abbrev pub Handed : Choice → Bor (List ℕ) → Bor (List ℕ) → Bor (List ℕ) → Type 0
 Handed First first second part = part ≡ first
 Handed Second first second part = part ≡ second
-Handed Neither first second part = (part.ref_ptr ≡ first.ptr) × (part.now ≡ [])
+Handed Neither first second part = (part.ref_ptr ≡ first.ref_ptr) × (part.now ≡ [])
 
 -- a store too small is a refusal too
 unfoldable pub chosen_with : List ℕ → List ℕ → List ℕ → List ℕ → Choice

@@ -25,8 +25,8 @@ use Rattle.calculus.specs.Derivation.{whole, walk}
 use Rattle.calculus.specs.Writing.{wrote, write_from}
 use Rattle.calculus.specs.declared.Record.{Record}
 use Rattle.calculus.specs.declared.Record.TheVariants.{E, C, Q}
-use Rattle.calculus.specs.Theorems.Broken.{first_broken_lem}
-use Rattle.calculus.specs.Theorems.Length.{Answer, write_answers}
+use Rattle.calculus.proofs.Theorems.Broken.{first_broken_lem}
+use Rattle.calculus.proofs.Theorems.Length.{Answer, write_answers}
 use Rattle.derivation.specs.Bytes.{claim_size, claim_bytes, all_bytes}
 use Rattle.derivation.specs.Check.{followed, shown, claimed, check_of}
 use Rattle.derivation.specs.Write.{derivation, finished, written, cheapest, aimed, write_of}

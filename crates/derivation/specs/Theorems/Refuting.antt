@@ -22,8 +22,8 @@ use Rattle.valuation.specs.Theorems.Value.{Weighed, OnWorth, valued_weighed}
 use Rattle.calculus.specs.Branch.{Branch, root}
 use Rattle.calculus.specs.Claims.{Below, Refutes}
 use Rattle.calculus.specs.Writing.{from, Draft, wrote, no_room, stuck, write_from, found}
-use Rattle.calculus.specs.Theorems.Agree.{feasible_agree, cost_agree}
-use Rattle.calculus.specs.Theorems.Stuck.{stuck_refutes}
+use Rattle.calculus.proofs.Theorems.Agree.{feasible_agree, cost_agree}
+use Rattle.calculus.proofs.Theorems.Stuck.{stuck_refutes}
 use Rattle.derivation.specs.Bytes.{claim_size}
 use Rattle.derivation.specs.Write.{Outcome, derivation, turned_away, refuted, bit, found_bytes, finished, written, cheapest, aimed, write_of}
 use Rattle.derivation.specs.Demands.{Layout, Of, Due, Refuted}

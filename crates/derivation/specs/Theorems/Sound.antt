@@ -20,9 +20,9 @@ use Rattle.valuation.specs.Theorems.Value.{Weighed, OnWorth, valued_weighed}
 use Rattle.calculus.specs.Branch.{root}
 use Rattle.calculus.specs.Claims.{True}
 use Rattle.calculus.specs.Derivation.{walk}
-use Rattle.calculus.specs.Theorems.Broken.{first_broken_lem}
-use Rattle.calculus.specs.Theorems.Sound.{sound}
-use Rattle.calculus.specs.Theorems.Walked.{accepted_counted}
+use Rattle.calculus.proofs.Theorems.Broken.{first_broken_lem}
+use Rattle.calculus.proofs.Theorems.Sound.{sound}
+use Rattle.calculus.proofs.Theorems.Walked.{accepted_counted}
 use Rattle.derivation.specs.Bytes.{claim_size, claim_at, items}
 use Rattle.derivation.specs.Check.{followed, shown, claimed, check_of, Desk, roomy, CheckAnswers}
 use Rattle.derivation.specs.Demands.{Meant}
