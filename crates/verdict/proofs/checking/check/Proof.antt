@@ -5,7 +5,7 @@ use native.Mathlib.Omega.{arith}
 use borrow.Author.Rules.{rules}
 use Rattle.instance.specs.Memory.{store_size, cells_size, log_size, frames_size}
 use Rattle.instance.specs.declared.answers.Checked.{Checked}
-use Rattle.derivation.specs.Theorems.Sound.{answers_meant}
+use Rattle.derivation.proofs.Theorems.Sound.{answers_meant}
 use Rattle.verdict.proofs.Desks.{whole_size, whole_cleared, sized, lent_part, lent_ample, desk_kept, desk_cleared}
 use Rattle.verdict.proofs.checking.check.Statement.{statement}
 use Rattle.verdict.proofs.checking.check.Tie as tie

@@ -30,8 +30,8 @@ use Rattle.calculus.proofs.Theorems.Length.{Answer, write_answers}
 use Rattle.derivation.specs.Bytes.{claim_size, claim_bytes, all_bytes}
 use Rattle.derivation.specs.Check.{followed, shown, claimed, check_of}
 use Rattle.derivation.specs.Write.{derivation, finished, written, cheapest, aimed, write_of}
-use Rattle.derivation.specs.Demands.{Layout, Cheapest, Due, most_bytes, Delivers}
-use Rattle.derivation.specs.Theorems.RoundTrip.{Small, Held, length_claim, length_record, claim_back, claim_passed, records_back}
+use Rattle.derivation.specs.Demands.{Layout, Due, most_bytes, Delivers}
+use Rattle.derivation.proofs.Theorems.RoundTrip.{Small, Held, length_claim, length_record, claim_back, claim_passed, records_back}
 
 claim_short : (k : Claim) → claim_size k ≤ 9
 unfolding claim_size
