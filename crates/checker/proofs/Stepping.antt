@@ -1,13 +1,7 @@
 -- A record on the branch at work, by the tests of the code.
-use Prim.Native.Nat.{ℕ, zero, suc, ◌-◌, ◌<◌, ◌≤◌}
-use mathlib.Core.Bool.{Bool, true, false, ◌&&◌}
-use mathlib.Core.List.{List, [], ◌∷◌}
-use mathlib.Core.Option.{Option, some, none}
-use mathlib.Core.Path.{◌≡◌, refl, ap, sym, ◌∙◌}
-use native.Mathlib.Omega.{arith}
-use borrow.Author.Tests.{le-leb, lt-leb}
-use lib.Dec.{leb}
-use lib.ListN.{length}
+use Rattle.std.proofs.Common.{ℕ, zero, suc, ◌-◌, ◌<◌, ◌≤◌, Bool, true, false, ◌&&◌, List, [], ◌∷◌, ◌≡◌, refl, ap, sym, ◌∙◌, arith, le-leb, leb, length}
+use Rattle.std.proofs.Math.Option.{Option, some, none}
+use borrow.Author.Tests.{lt-leb}
 use Rattle.instance.specs.Memory.{log_size, frames_size}
 use Rattle.instance.specs.Clause.{Problem}
 use Rattle.instance.specs.Store.{Stored}

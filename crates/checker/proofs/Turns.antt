@@ -1,9 +1,5 @@
 -- The loop over the records: after each turn what is left decides the answer.
-use Prim.Native.Nat.{ℕ, suc, ◌+◌, ◌<◌, ◌≤◌}
-use mathlib.Core.List.{List, [], ◌∷◌, ◌++◌}
-use mathlib.Core.Path.{◌≡◌, refl, ap, sym, ◌∙◌}
-use native.Mathlib.Omega.{arith}
-use lib.ListN.{length, get_or, drop}
+use Rattle.std.proofs.Common.{ℕ, suc, ◌+◌, ◌<◌, ◌≤◌, List, [], ◌∷◌, ◌++◌, ◌≡◌, refl, ap, sym, ◌∙◌, arith, length, get_or, drop}
 use Rattle.instance.specs.Clause.{Problem}
 use Rattle.instance.specs.Refusals.{staged}
 use Rattle.instance.specs.declared.answers.Claim.{Claim}
@@ -20,19 +16,7 @@ use Rattle.checker.specs.declared.frames.Level.{Level}
 use Rattle.checker.specs.declared.records.Decoded.TheVariants.{Whole, Broken}
 use Rattle.checker.specs.declared.steps.Move.{Move}
 use Rattle.checker.specs.declared.steps.Move.TheVariants.{On, Last, Stop}
-use Rattle.checker.proofs.Running.{
-  walk_end,
-  walk_accepts,
-  walk_more,
-  walk_broken,
-  next_low,
-  next_later,
-  walk_stops,
-  walk_goes,
-  moved_stop,
-  moved_last,
-  moved_on,
-}
+use Rattle.checker.proofs.Running.{walk_end, walk_accepts, walk_more, walk_broken, next_low, next_later, walk_stops, walk_goes, moved_stop, moved_last, moved_on}
 
 module _ (n : ℕ) (claim : Claim) (proof : List ℕ) (from : ℕ) (store cells₀ log₀ f₀ : List ℕ) where
   -- the answer that the definitions give

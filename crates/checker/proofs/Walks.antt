@@ -1,12 +1,5 @@
 -- An extension, and going to the next branch: from the memory to the list of open branches.
-use Prim.Native.Nat.{ℕ, zero, suc, ◌+◌, ◌*◌, ◌-◌, ◌<◌, ◌≤◌}
-use mathlib.Core.Bool.{true}
-use mathlib.Core.List.{List, [], ◌∷◌, ◌++◌, map}
-use mathlib.Core.Path.{◌≡◌, refl, ap, sym, ◌∙◌}
-use native.Mathlib.Omega.{arith}
-use native.Mathlib.Numerals.{add-one}
-use lib.ListN.{length, get_or, set, take, drop, length-set}
-use lib.Seq.{get_or-set_same, get_or-set_other}
+use Rattle.std.proofs.Common.{ℕ, zero, suc, ◌+◌, ◌*◌, ◌-◌, ◌<◌, ◌≤◌, true, List, [], ◌∷◌, ◌++◌, map, ◌≡◌, refl, ap, sym, ◌∙◌, arith, add-one, length, get_or, set, take, drop, length-set, get_or-set_same, get_or-set_other}
 use Rattle.instance.specs.Limits.{most_clauses, most_literals}
 use Rattle.instance.specs.Memory.{store_size, log_size, frames_size}
 use Rattle.instance.specs.Clause.{soft, clause, Problem}
