@@ -17,7 +17,7 @@ use Rattle.reader.specs.Reading.{refused, with_literal, with_clause, ended, clau
 use Rattle.reader.specs.Survey.{counts}
 use Rattle.reader.specs.Said.{word_says}
 use Rattle.reader.specs.Keeping.{literals_from, Kept, again, opposed, new}
-use Rattle.reader.specs.Theorems.Limits.{Taken, later_taken, open_literal, open_clause}
+use Rattle.reader.proofs.Theorems.Limits.{Taken, later_taken, open_literal, open_clause}
 use Rattle.reader.specs.declared.words.Word.{Word}
 use Rattle.reader.proofs.Spans.{TokenAt}
 use Rattle.reader.proofs.AtWork.{Row, row_more, row_flagged, row_coded, row_closed}

@@ -19,7 +19,7 @@ use Rattle.reader.specs.Survey.{counts}
 use Rattle.reader.specs.Spans.{in_line, past}
 use Rattle.reader.specs.Said.{opening_says, FirstSaid}
 use Rattle.reader.specs.Promise.{ReadAnswers}
-use Rattle.reader.specs.Theorems.Limits.{Opens, first_taken, open_begun}
+use Rattle.reader.proofs.Theorems.Limits.{Opens, first_taken, open_begun}
 use Rattle.reader.specs.declared.words.Opening.{Opening}
 use Rattle.reader.proofs.Spans.{past_within, TokenAt}
 use Rattle.reader.proofs.AtWork.{row_begun}

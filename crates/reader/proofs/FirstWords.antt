@@ -15,7 +15,7 @@ use Rattle.instance.specs.Theorems.Choices.{on_test, never, neither}
 use Rattle.reader.specs.Numbers.{zero_digit, spelled, value_from, decimal}
 use Rattle.reader.specs.Words.{letter_h, alone, weight_spelled, First, weighs, bad_first, weighed, first_word}
 use Rattle.reader.specs.Said.{number_of, spelled_as}
-use Rattle.reader.specs.Theorems.Limits.{spelled_some}
+use Rattle.reader.proofs.Theorems.Limits.{spelled_some}
 use Rattle.reader.specs.declared.numbers.Number.{Number}
 use Rattle.reader.specs.declared.words.Weight as declared
 use Rattle.reader.specs.declared.words.Spelled.{Spelled}

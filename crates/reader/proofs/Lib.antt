@@ -1,3 +1,4 @@
+pub mod Theorems
 pub mod Rest
 pub mod Spans
 pub mod Digits

@@ -17,7 +17,7 @@ use Rattle.reader.specs.Lines.{lines}
 use Rattle.reader.specs.Reading.{read, refused, nothing, read_of}
 use Rattle.reader.specs.Survey.{counts, survey_of}
 use Rattle.reader.specs.Promise.{ReadAnswers}
-use Rattle.reader.specs.Theorems.Limits.{Sound, Open, nothing_sound}
+use Rattle.reader.proofs.Theorems.Limits.{Sound, Open, nothing_sound}
 use Rattle.reader.proofs.Rows.{Rows, rows_none}
 use Rattle.reader.proofs.AtWork.{Row}
 use Rattle.reader.proofs.Lexing.{from}

@@ -6,20 +6,7 @@ use Rattle.instance.specs.Clause.{pos, hard, clause, Clause, variable_of, same, 
 use Rattle.instance.specs.Refusals.{staged, number_of, place_of}
 use Rattle.reader.specs.Lines.{blank, in_token, on_first, begun, widened, starts_in_token, lines}
 use Rattle.reader.specs.Numbers.{digit, all_digits, spelled, value_from, decimal}
-use Rattle.reader.specs.Words.{
-  First,
-  bad_first,
-  Later,
-  holds,
-  bad_later,
-  alone,
-  weight_spelled,
-  signed,
-  literal_spelled,
-  weighed,
-  first_word,
-  later_word,
-}
+use Rattle.reader.specs.Words.{bad_first, holds, bad_later, alone, weight_spelled, signed, literal_spelled, weighed, first_word, later_word}
 use Rattle.reader.specs.Reading.{nothing, with_literal, with_clause, ended, clause_from, comment, line_read, lines_read, read_of}
 use Rattle.reader.specs.Survey.{counts, survey_of}
 use Rattle.reader.specs.Quoted.{text, sheet_pair}

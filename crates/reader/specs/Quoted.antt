@@ -1,5 +1,5 @@
 -- Texts for examples: a quoted text's bytes, where `/` is LF as in 01's own examples.
-use Rattle.std.specs.Prelude.{ℕ, Bool, true, false, List, [], ◌∷◌, eqb}
+use Rattle.std.specs.Prelude.{ℕ, true, false, List, [], ◌∷◌, eqb}
 use Prim.Native.Char.{code}
 use Prim.Native.String as quoted
 use Prim.Native.String.{String}

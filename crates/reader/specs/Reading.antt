@@ -1,6 +1,6 @@
 -- What a text is read as (01, "Instance text"): line by line, token by token, up to the first token at fault.
 use Rattle.std.specs.Prelude.{ℕ, suc, max, Bool, true, false, List, [], ◌∷◌, ◌++◌, eqb}
-use Rattle.instance.specs.Clause.{Literal, Weight, clause, Clause, Problem, variable_of, kept_with}
+use Rattle.instance.specs.Clause.{Literal, Weight, clause, Problem, variable_of, kept_with}
 use Rattle.reader.specs.Lines.{Token, Line, lines}
 use Rattle.reader.specs.Words.{letter_c, weighs, bad_first, first_word, ends, holds, bad_later, later_word}
 

@@ -1,5 +1,5 @@
 -- Survey (01, "What is built"): n, K, literals written, total soft weight.
-use Rattle.std.specs.Prelude.{Bool, true, false, List, ◌≡◌, ℕ, length}
+use Rattle.std.specs.Prelude.{true, false, List, ◌≡◌, ℕ, length}
 use Rattle.instance.specs.Clause.{Problem, total_of}
 use Rattle.instance.specs.Refusals.{staged}
 use Rattle.instance.specs.Memory.{store_size, ample, returned}

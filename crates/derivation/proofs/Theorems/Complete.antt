@@ -15,7 +15,7 @@ use Rattle.instance.specs.declared.answers.Claim.TheVariants.{Minimum, Infeasibl
 use Rattle.instance.specs.declared.answers.Checked.TheVariants.{Accepted}
 use Rattle.instance.specs.declared.answers.Valued.{Valued}
 use Rattle.reader.specs.Reading.{read, read_of}
-use Rattle.reader.specs.Theorems.Limits.{read_within}
+use Rattle.reader.proofs.Theorems.Limits.{read_within}
 use Rattle.valuation.specs.Value.{worth_of, valued}
 use Rattle.valuation.specs.Theorems.Value.{valued_worth}
 use Rattle.calculus.specs.Bounds.{bytes_of, InRange}

@@ -16,7 +16,7 @@ use Rattle.instance.specs.declared.answers.Claim.{Claim}
 use Rattle.instance.specs.declared.answers.Claim.TheVariants.{Minimum, Infeasible}
 use Rattle.instance.specs.declared.answers.Valued.{Valued}
 use Rattle.reader.specs.Reading.{Reading, read, refused, read_of}
-use Rattle.reader.specs.Theorems.Limits.{read_within}
+use Rattle.reader.proofs.Theorems.Limits.{read_within}
 use Rattle.valuation.specs.Value.{valued}
 use Rattle.valuation.specs.Theorems.Value.{Weighed, OnWorth, valued_weighed}
 use Rattle.calculus.specs.Branch.{Branch, root}

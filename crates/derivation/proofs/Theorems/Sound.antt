@@ -14,7 +14,7 @@ use Rattle.instance.specs.declared.answers.Checked.{Checked}
 use Rattle.instance.specs.declared.answers.Checked.TheVariants.{Accepted, Refused}
 use Rattle.instance.specs.declared.answers.Valued.{Valued}
 use Rattle.reader.specs.Reading.{Reading, read, refused, read_of}
-use Rattle.reader.specs.Theorems.Limits.{read_within}
+use Rattle.reader.proofs.Theorems.Limits.{read_within}
 use Rattle.valuation.specs.Value.{valued}
 use Rattle.valuation.specs.Theorems.Value.{Weighed, OnWorth, valued_weighed}
 use Rattle.calculus.specs.Branch.{root}

@@ -1,4 +1,4 @@
-use Rattle.std.proofs.Common.{◌≡◌, ◌≤◌, ◌<◌, ◌+◌, ℕ, List, true, false, length, get_or, sym, ◌∙◌, refl, arith, eq-eqb, ne_eqb, eqb}
+use Rattle.std.proofs.Common.{◌≡◌, ◌≤◌, ◌<◌, ◌+◌, ℕ, List, true, false, length, get_or, sym, ◌∙◌, arith, eq-eqb, ne_eqb, eqb}
 use Rattle.instance.specs.Clause.{same, occurs}
 use Rattle.instance.specs.Store.{literal_of}
 use Rattle.instance.specs.Theorems.Codes.{same_literals}

@@ -8,7 +8,7 @@ use Rattle.reader.specs.Spans.{past}
 use Rattle.reader.specs.declared.words.Opening.{Opening}
 use Rattle.reader.specs.declared.words.Word.{Word}
 use Rattle.reader.proofs.Lexing.{bytes_at}
-use Rattle.reader.proofs.Spans.{past_within, TokenAt, token_found, token_some}
+use Rattle.reader.proofs.Spans.{past_within, TokenAt, token_found}
 use Rattle.reader.proofs.States.{Lent, lent_begun, lent_then, Between, begins, Inside, refuses}
 use Rattle.reader.proofs.AtLine.{
   Front,
@@ -116,7 +116,7 @@ past_token-end-requires-in-loop-counted c = blanks_within _ _ c.loop-counted.inv
 pub slice_bounds-later_word-end : goal.slice_bounds-later_word-end
 slice_bounds-later_word-end c =
     (token_found c.loop-counted.invariant.here c.past_blanks-at-in-loop-counted.ensures
-     c.past_token-end-in-loop-counted.ensures).within
+    c.past_token-end-in-loop-counted.ensures).within
 
 pub with_literal-counted-requires : goal.with_literal-counted-requires
 with_literal-counted-requires c =
@@ -130,7 +130,8 @@ keep-kept-requires c =
     let a = c.loop-counted.invariant in
     let t = token_found a.here c.past_blanks-at-in-loop-counted.ensures c.past_token-end-in-loop-counted.ensures in
     let f = following c.loop-counted.counted t c.if-end-at-2.false c.later_word.ensures in
-    keep_fits a f c.in-Literal.is
+    let fits = keep_fits a f c.in-Literal.is in
+    (fits.0, omega arith, fits.2, fits.3)
 
 pub loop-counted-preserved : goal.loop-counted-preserved
 loop-counted-preserved c =
@@ -159,7 +160,7 @@ pub past_token-requires : goal.past_token-requires
 past_token-requires c =
     let a = c.loop-counted.invariant in
     let t = token_found a.here c.past_blanks-at-in-loop-counted.ensures c.past_token-end-in-loop-counted.ensures in
-    blanks_within _ _ t.within c.past_blanks-i.ensures
+    omega (arith, t, blanks_within _ _ t.within c.past_blanks-i.ensures)
 
 pub with_clause-counted-requires : goal.with_clause-counted-requires
 with_clause-counted-requires c = inside_counts c.loop-counted.invariant

@@ -15,7 +15,7 @@ by_number written sign digits small n e =
 
 pub returns-then-written-ge-LITERALS : goal.returns-then-written-ge-LITERALS
 returns-then-written-ge-LITERALS c =
-    literal_many _ (coded c.args.sign) c.in-Value.x c.if-written-ge-LITERALS.true
+    literal_many c.args.written (coded c.args.sign) c.in-Value.x (omega arith)
     ∙ by_number _ _ _ c.requires _ c.in-Value.ensures
 
 pub overflow_mul-result : goal.overflow_mul-result
