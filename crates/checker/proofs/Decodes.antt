@@ -1,8 +1,8 @@
 -- The record at a place, by its first byte.
-use Rattle.std.proofs.Common.{ℕ, suc, ◌+◌, ◌*◌, ◌-◌, ◌<◌, ◌≤◌, List, [], ◌∷◌, ◌≡◌, refl, ap, sym, ◌∙◌, arith, add-one, ne_eqb, le-leb, length, get_or, take, drop, length-drop, drop-cons}
-use Rattle.std.proofs.Math.Option.{Option, some, none}
+use Rattle.std.proofs.Common.{ℕ, suc, ◌+◌, ◌*◌, ◌-◌, ◌<◌, ◌≤◌, List, ◌∷◌, ◌≡◌, refl, ap, ◌∙◌, arith, add-one, ne_eqb, le-leb, length, get_or, take, drop, length-drop, drop-cons}
+use Rattle.std.proofs.Math.Option.{some, none}
 use borrow.Author.Tests.{lt-leb}
-use Rattle.calculus.specs.Derivation.{Item, whole, other, size}
+use Rattle.calculus.specs.Derivation.{other, size}
 use Rattle.calculus.specs.declared.Record.{Record}
 use Rattle.calculus.specs.declared.Record.TheVariants.{E, C, Q}
 use Rattle.derivation.specs.Bytes.{kind_e, kind_c, kind_q, number_from, number, body, whole_if, item_at}

@@ -1,11 +1,9 @@
 -- One turn of the walk over a derivation's bytes.
-use Rattle.std.proofs.Common.{ℕ, zero, suc, ◌+◌, ◌-◌, ◌<◌, ◌≤◌, Bool, true, false, List, [], ◌∷◌, ◌++◌, ◌≡◌, refl, ap, sym, ◌∙◌, arith, add-one, leb-true, eqb, leb, length, get_or, take, drop, length-drop, drop_of_length-le, drop-cons, drop-drop}
+use Rattle.std.proofs.Common.{ℕ, zero, suc, ◌+◌, ◌<◌, ◌≤◌, Bool, true, false, List, [], ◌∷◌, ◌++◌, ◌≡◌, refl, ap, sym, ◌∙◌, arith, add-one, leb-true, eqb, leb, length, get_or, take, drop, length-drop, drop_of_length-le, drop-cons, drop-drop}
 use Rattle.std.proofs.Math.Option.{Option, some, none}
-use Rattle.std.proofs.Math.Seq.{drop-nil}
 use Rattle.instance.specs.Clause.{Problem}
 use Rattle.instance.specs.Refusals.{staged}
 use Rattle.instance.specs.declared.answers.Claim.{Claim}
-use Rattle.instance.specs.declared.answers.Checked.{Checked}
 use Rattle.instance.specs.declared.answers.Checked.TheVariants.{Accepted, Refused}
 use Rattle.calculus.specs.Branch.{Branch}
 use Rattle.calculus.specs.Derivation.{Item, whole, other, size, Step, stop, go, step, walk}
@@ -16,7 +14,6 @@ use Rattle.checker.specs.Decoding.{decoded_as}
 use Rattle.checker.specs.Walking.{Walk}
 use Rattle.checker.specs.Moves.{Moved}
 use Rattle.checker.specs.declared.frames.Level.{Level}
-use Rattle.checker.specs.declared.records.Decoded.{Decoded}
 use Rattle.checker.specs.declared.records.Decoded.TheVariants.{Whole, Broken}
 use Rattle.checker.specs.declared.steps.Move.TheVariants.{On, Last, Stop}
 

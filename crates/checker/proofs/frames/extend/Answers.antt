@@ -1,4 +1,4 @@
-use Rattle.std.proofs.Common.{ℕ, suc, ◌+◌, ◌<◌, List, ◌≡◌, true, ap, ◌∙◌, length, arith}
+use Rattle.std.proofs.Common.{ℕ, suc, ◌+◌, ◌<◌, List, ◌≡◌, true, arith}
 use Rattle.instance.specs.Limits.{most_literals}
 use Rattle.instance.specs.Clause.{Problem, soft}
 use Rattle.instance.specs.Store.{start_in}
@@ -42,7 +42,7 @@ gain-top-requires-clause-in_range c =
     let x = extensible I c.args.store.now _ _ _ _ _ _ b bs w can in
     let several = x.several in (
       rw (c.literal_at-literal.ensures, c.start_of-start.ensures) (literal_coded c.args.store.now I w.stored c.args.k x.here _ (omega arith) (omega arith)),
-      omega (arith, c.spend-height.ensures.later.same_log, w.log_size_lem),
+      omega (arith, c.spend-height.ensures.later.same_log, w.log_suffices),
     )
 
 pub returns : goal.returns

@@ -1,13 +1,12 @@
-use Rattle.std.proofs.Common.{suc, ◌+◌, ◌<◌, length, arith}
-use Rattle.instance.specs.Limits.{most_literals}
-use Rattle.checker.proofs.Walks.{Top, top_of, turn_last, turn_more}
+use Rattle.std.proofs.Common.{◌+◌, arith}
+use Rattle.checker.proofs.Walks.{top_of, turn_last, turn_more}
 use Rattle.checker.proofs.frames.turn.Goals as goal
 
 pub rewind-requires : goal.rewind-requires
 rewind-requires c =
     let (I, b, bs, w) = c.requires in
     let t = top_of I c.args.store.now _ _ _ _ _ b bs w in
-    (t.frame.low, omega (arith, t.height, w.log_size_lem), λ e lo hi. w.places e (omega arith) hi)
+    (t.frame.low, omega (arith, t.height, w.log_suffices), λ e lo hi. w.places e (omega arith) hi)
 
 pub literal_at-literal-requires : goal.literal_at-literal-requires
 literal_at-literal-requires c =
@@ -37,7 +36,7 @@ pub gain-entered-requires-clause-in_range : goal.gain-entered-requires-clause-in
 gain-entered-requires-clause-in_range c =
     let (I, b, bs, w) = c.requires in
     let t = top_of I c.args.store.now _ _ _ _ _ b bs w in
-    (rw c.literal_at-literal.ensures t.coded, w.log_size_lem)
+    (rw c.literal_at-literal.ensures t.coded, w.log_suffices)
 
 pub overflow_add-next-2 : goal.overflow_add-next-2
 overflow_add-next-2 c =

@@ -7,11 +7,6 @@ returns-then-depth-eq0 c I b bs any w =
     rw (close_can I _ b (sym (c.can_close.ensures _ b w.works.shows) ∙ c.if-can_close.true))
     (walk_last I c.args.store.now _ _ _ _ _ b bs w c.if-depth-eq0.true)
 
-pub turn-requires : goal.turn-requires
-turn-requires c =
-    let (I, b, bs, any, w) = c.requires in
-    (I, b, bs, walk_deep I c.args.store.now _ _ _ _ _ b bs w c.if-depth-eq0.false)
-
 pub returns-then-can_close : goal.returns-then-can_close
 returns-then-can_close c I b bs any w =
     rw (close_can I _ b (sym (c.can_close.ensures _ b w.works.shows) ∙ c.if-can_close.true))

@@ -1,4 +1,4 @@
-use Rattle.std.proofs.Common.{◌≤◌, ◌<◌, ◌≡◌, refl, ap, sym, ◌∙◌, arith}
+use Rattle.std.proofs.Common.{refl, sym, ◌∙◌}
 use Rattle.calculus.specs.Branch.{contradict}
 use Rattle.checker.proofs.Stepping.{contradict_dead, contradict_zero, contradict_over, contradict_in, clash_moves, clash_stops}
 use Rattle.checker.proofs.steps.on_contradict.Goals as goal

@@ -1,6 +1,5 @@
-use Rattle.std.proofs.Common.{suc, ◌-◌, ◌≡◌, refl, ap, sym, ◌∙◌, arith}
+use Rattle.std.proofs.Common.{suc, ◌-◌, ◌≡◌, refl, sym, ◌∙◌, arith}
 use Rattle.branch.specs.Theorems.Extending.{extending_zero, extending_over, extending_shut}
-use Rattle.calculus.specs.Derivation.{extending, stop}
 use Rattle.checker.proofs.Stepping.{extend_dead, extend_alive}
 use Rattle.checker.proofs.steps.on_extend.Goals as goal
 

@@ -1,6 +1,4 @@
 use Rattle.std.proofs.Common.{[]}
-use Rattle.instance.specs.Clause.{Problem}
-use Rattle.instance.specs.Store.{Stored}
 use Rattle.calculus.specs.Branch.{root}
 use Rattle.checker.proofs.Stepping.{walk_root}
 use Rattle.checker.proofs.walk.after_claim.Goals as goal
