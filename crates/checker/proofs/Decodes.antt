@@ -1,14 +1,8 @@
 -- The record at a place, by its first byte.
-use Prim.Native.Nat.{ℕ, suc, ◌+◌, ◌*◌, ◌-◌, ◌<◌, ◌≤◌}
-use mathlib.Core.List.{List, [], ◌∷◌}
-use mathlib.Core.Option.{Option, some, none}
-use mathlib.Core.Path.{◌≡◌, refl, ap, sym, ◌∙◌}
-use native.Mathlib.Omega.{arith}
-use native.Mathlib.Numerals.{add-one}
-use borrow.Author.Tests.{ne_eqb, le-leb, lt-leb}
-use lib.ListN.{length, get_or, take, drop, length-drop}
-use lib.Seq.{drop-cons}
-use Rattle.calculus.specs.Derivation.{Item, whole, other, size}
+use Rattle.std.proofs.Common.{ℕ, suc, ◌+◌, ◌*◌, ◌-◌, ◌<◌, ◌≤◌, List, ◌∷◌, ◌≡◌, refl, ap, ◌∙◌, arith, add-one, ne_eqb, le-leb, length, get_or, take, drop, length-drop, drop-cons}
+use Rattle.std.proofs.Math.Option.{some, none}
+use borrow.Author.Tests.{lt-leb}
+use Rattle.calculus.specs.Derivation.{other, size}
 use Rattle.calculus.specs.declared.Record.{Record}
 use Rattle.calculus.specs.declared.Record.TheVariants.{E, C, Q}
 use Rattle.derivation.specs.Bytes.{kind_e, kind_c, kind_q, number_from, number, body, whole_if, item_at}

@@ -1,19 +1,9 @@
 -- One turn of the walk over a derivation's bytes.
-use Prim.Native.Nat.{ℕ, zero, suc, ◌+◌, ◌-◌, ◌<◌, ◌≤◌}
-use mathlib.Core.Bool.{Bool, true, false}
-use mathlib.Core.List.{List, [], ◌∷◌, ◌++◌}
-use mathlib.Core.Option.{Option, some, none}
-use mathlib.Core.Path.{◌≡◌, refl, ap, sym, ◌∙◌}
-use native.Mathlib.Omega.{arith}
-use native.Mathlib.Numerals.{add-one}
-use borrow.Author.Tests.{leb-true}
-use lib.Dec.{eqb, leb}
-use lib.ListN.{length, get_or, take, drop, length-drop, drop_of_length-le}
-use lib.Seq.{drop-cons, drop-drop, drop-nil}
+use Rattle.std.proofs.Common.{ℕ, zero, suc, ◌+◌, ◌<◌, ◌≤◌, Bool, true, false, List, [], ◌∷◌, ◌++◌, ◌≡◌, refl, ap, sym, ◌∙◌, arith, add-one, leb-true, eqb, leb, length, get_or, take, drop, length-drop, drop_of_length-le, drop-cons, drop-drop}
+use Rattle.std.proofs.Math.Option.{Option, some, none}
 use Rattle.instance.specs.Clause.{Problem}
 use Rattle.instance.specs.Refusals.{staged}
 use Rattle.instance.specs.declared.answers.Claim.{Claim}
-use Rattle.instance.specs.declared.answers.Checked.{Checked}
 use Rattle.instance.specs.declared.answers.Checked.TheVariants.{Accepted, Refused}
 use Rattle.calculus.specs.Branch.{Branch}
 use Rattle.calculus.specs.Derivation.{Item, whole, other, size, Step, stop, go, step, walk}
@@ -24,7 +14,6 @@ use Rattle.checker.specs.Decoding.{decoded_as}
 use Rattle.checker.specs.Walking.{Walk}
 use Rattle.checker.specs.Moves.{Moved}
 use Rattle.checker.specs.declared.frames.Level.{Level}
-use Rattle.checker.specs.declared.records.Decoded.{Decoded}
 use Rattle.checker.specs.declared.records.Decoded.TheVariants.{Whole, Broken}
 use Rattle.checker.specs.declared.steps.Move.TheVariants.{On, Last, Stop}
 

@@ -1,10 +1,5 @@
 -- The frames stand for the same open branches, whatever is stored above them.
-use Prim.Native.Nat.{ℕ, zero, suc, ◌+◌, ◌*◌, ◌-◌, ◌<◌, ◌≤◌}
-use mathlib.Core.List.{List, [], ◌∷◌, ◌++◌}
-use mathlib.Core.Path.{◌≡◌, refl, ap, sym, ◌∙◌}
-use native.Mathlib.Omega.{arith}
-use lib.ListN.{length, get_or, set, length-set}
-use lib.Seq.{get_or-set_same, get_or-set_other}
+use Rattle.std.proofs.Common.{ℕ, zero, suc, ◌+◌, ◌*◌, ◌<◌, ◌≤◌, List, ◌++◌, ◌≡◌, refl, ◌∙◌, arith, length, get_or, set, length-set, get_or-set_same, get_or-set_other}
 use Rattle.instance.specs.Clause.{Problem}
 use Rattle.journal.specs.Undo.{Later}
 use Rattle.journal.specs.Theorems.Stores.{later_log, later_rewound}

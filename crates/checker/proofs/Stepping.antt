@@ -1,13 +1,7 @@
 -- A record on the branch at work, by the tests of the code.
-use Prim.Native.Nat.{ℕ, zero, suc, ◌-◌, ◌<◌, ◌≤◌}
-use mathlib.Core.Bool.{Bool, true, false, ◌&&◌}
-use mathlib.Core.List.{List, [], ◌∷◌}
-use mathlib.Core.Option.{Option, some, none}
-use mathlib.Core.Path.{◌≡◌, refl, ap, sym, ◌∙◌}
-use native.Mathlib.Omega.{arith}
-use borrow.Author.Tests.{le-leb, lt-leb}
-use lib.Dec.{leb}
-use lib.ListN.{length}
+use Rattle.std.proofs.Common.{ℕ, suc, ◌-◌, ◌<◌, ◌≤◌, true, false, List, [], ◌≡◌, refl, ap, ◌∙◌, arith, le-leb, length}
+use Rattle.std.proofs.Math.Option.{Option, some, none}
+use borrow.Author.Tests.{lt-leb}
 use Rattle.instance.specs.Memory.{log_size, frames_size}
 use Rattle.instance.specs.Clause.{Problem}
 use Rattle.instance.specs.Store.{Stored}
@@ -23,8 +17,7 @@ use Rattle.branch.specs.declared.contradiction.Clash.TheVariants.{Done, Nothing}
 use Rattle.checker.specs.Frames.{Stack}
 use Rattle.checker.specs.Walking.{Walk}
 use Rattle.checker.specs.Moves.{Moved}
-use Rattle.checker.specs.declared.frames.Level.{Level}
-use Rattle.checker.specs.declared.steps.Move.TheVariants.{On, Last, Stop}
+use Rattle.checker.specs.declared.steps.Move.TheVariants.{On, Stop}
 use Rattle.checker.proofs.Stacks.{stack_later}
 
 -- ---- the calculus' step
@@ -73,8 +66,8 @@ unfolding Stack
 walk_root I store cells log f b stored works lo fr = record {
   stored = stored;
   works = works;
-  log_size_lem = lo;
-  frames_size_lem = fr;
+  log_suffices = lo;
+  frames_suffice = fr;
   places = λ e low hi. absurd (omega arith);
   stack = refl;
 }
@@ -85,8 +78,8 @@ module _ (I : Problem) (store cells log f : List ℕ) (top depth : ℕ) (b : Bra
   walk_later cells' log' top' b' works later = record {
     stored = w.stored;
     works = works;
-    log_size_lem = rw later.same_log w.log_size_lem;
-    frames_size_lem = w.frames_size_lem;
+    log_suffices = rw later.same_log w.log_suffices;
+    frames_suffice = w.frames_suffice;
     places = rw later.same_cells (later_places later 0 w.places);
     stack = stack_later I store depth f bs later w.stack;
   }

@@ -1,9 +1,5 @@
 -- The loop over the records: after each turn what is left decides the answer.
-use Prim.Native.Nat.{ℕ, suc, ◌+◌, ◌<◌, ◌≤◌}
-use mathlib.Core.List.{List, [], ◌∷◌, ◌++◌}
-use mathlib.Core.Path.{◌≡◌, refl, ap, sym, ◌∙◌}
-use native.Mathlib.Omega.{arith}
-use lib.ListN.{length, get_or, drop}
+use Rattle.std.proofs.Common.{ℕ, ◌+◌, ◌<◌, ◌≤◌, List, ◌∷◌, ◌++◌, ◌≡◌, ap, sym, ◌∙◌, arith, length, get_or, drop}
 use Rattle.instance.specs.Clause.{Problem}
 use Rattle.instance.specs.Refusals.{staged}
 use Rattle.instance.specs.declared.answers.Claim.{Claim}
@@ -14,25 +10,13 @@ use Rattle.calculus.specs.Derivation.{step, walk}
 use Rattle.calculus.specs.declared.Record.{Record}
 use Rattle.derivation.specs.Bytes.{item_at, items}
 use Rattle.checker.specs.Decoding.{decoded_as}
-use Rattle.checker.specs.Walking.{Walk, Standing}
+use Rattle.checker.specs.Walking.{Walk}
 use Rattle.checker.specs.Moves.{OfVariables, Steps}
 use Rattle.checker.specs.declared.frames.Level.{Level}
 use Rattle.checker.specs.declared.records.Decoded.TheVariants.{Whole, Broken}
 use Rattle.checker.specs.declared.steps.Move.{Move}
 use Rattle.checker.specs.declared.steps.Move.TheVariants.{On, Last, Stop}
-use Rattle.checker.proofs.Running.{
-  walk_end,
-  walk_accepts,
-  walk_more,
-  walk_broken,
-  next_low,
-  next_later,
-  walk_stops,
-  walk_goes,
-  moved_stop,
-  moved_last,
-  moved_on,
-}
+use Rattle.checker.proofs.Running.{walk_end, walk_accepts, walk_more, walk_broken, next_low, next_later, walk_stops, walk_goes, moved_stop, moved_last, moved_on}
 
 module _ (n : ℕ) (claim : Claim) (proof : List ℕ) (from : ℕ) (store cells₀ log₀ f₀ : List ℕ) where
   -- the answer that the definitions give
@@ -50,19 +34,7 @@ module _ (n : ℕ) (claim : Claim) (proof : List ℕ) (from : ℕ) (store cells�
         → (b : Branch) × (bs : List Branch) × Walk I store cells log f level.top level.depth b bs
         × (walk I claim (items (drop at proof)) at count (b ∷ bs) ≡ walk I claim (items (drop from proof)) from 0 (b₀ ∷ bs₀))
 
-  pub running_first : Running cells₀ log₀ f₀ from 0 (record { top = 0; depth = 0 })
-  running_first = record {
-    counted = omega arith;
-    same_cells = refl;
-    same_log = refl;
-    same_frames = refl;
-    left = λ I b bs of w. (b, bs, w, refl);
-  }
-
   module _ (cells log f : List ℕ) (at count : ℕ) (level : Level) (r : Running cells log f at count level) where
-    pub standing : Standing (OfVariables n) store cells₀ log₀ f₀ 0 0 → Standing (OfVariables n) store cells log f level.top level.depth
-    standing (I, b₀, bs₀, of, w₀) = let (b, bs, w, e) = r.left I b₀ bs₀ of w₀ in (I, b, bs, of, w)
-
     pub answer_end : length proof ≤ at → Answer (Refused (staged 19 at))
     answer_end le I b₀ bs₀ of w₀ =
         let (b, bs, w, e) = r.left I b₀ bs₀ of w₀ in

@@ -1,26 +1,18 @@
 -- An extension, and going to the next branch: from the memory to the list of open branches.
-use Prim.Native.Nat.{ℕ, zero, suc, ◌+◌, ◌*◌, ◌-◌, ◌<◌, ◌≤◌}
-use mathlib.Core.Bool.{true}
-use mathlib.Core.List.{List, [], ◌∷◌, ◌++◌, map}
-use mathlib.Core.Path.{◌≡◌, refl, ap, sym, ◌∙◌}
-use native.Mathlib.Omega.{arith}
-use native.Mathlib.Numerals.{add-one}
-use lib.ListN.{length, get_or, set, take, drop, length-set}
-use lib.Seq.{get_or-set_same, get_or-set_other}
-use Rattle.instance.specs.Limits.{most_clauses, most_literals}
-use Rattle.instance.specs.Memory.{store_size, log_size, frames_size}
-use Rattle.instance.specs.Clause.{soft, clause, Problem}
-use Rattle.instance.specs.Store.{literals_at, literal_of, weight_of, start_in, end_in, Stored}
-use Rattle.journal.specs.Undo.{Later, Places, rewound}
+use Rattle.std.proofs.Common.{ℕ, suc, ◌+◌, ◌*◌, ◌-◌, ◌<◌, ◌≤◌, true, List, [], ◌∷◌, ◌++◌, map, ◌≡◌, refl, ap, ◌∙◌, arith, add-one, length, get_or, set, take, drop, length-set, get_or-set_same, get_or-set_other}
+use Rattle.instance.specs.Limits.{most_literals}
+use Rattle.instance.specs.Memory.{store_size}
+use Rattle.instance.specs.Clause.{soft, Problem}
+use Rattle.instance.specs.Store.{literals_at, literal_of, weight_of, start_in, end_in}
 use Rattle.journal.specs.Theorems.Stores.{later_join, later_places, rewound_length}
 use Rattle.calculus.specs.Branch.{Branch, put, gain, unit_of, branches}
 use Rattle.calculus.specs.Derivation.{go, extending}
 use Rattle.branch.specs.Shows.{open_in}
 use Rattle.branch.specs.Works.{most_entries, Works}
-use Rattle.branch.specs.Extensions.{Coded, Coming, Spent, Gained}
+use Rattle.branch.specs.Extensions.{Coded, Spent, Gained}
 use Rattle.branch.specs.Theorems.Stored.{part_cons, literal_coded, soft_stored}
 use Rattle.branch.specs.Theorems.Extending.{Extensible, extending_open}
-use Rattle.checker.specs.Frames.{clause_of, next_of, height_of, framed, weight_in, literals_from, alone, branches_from, base_of, Frame, Stack}
+use Rattle.checker.specs.Frames.{clause_of, next_of, height_of, framed, weight_in, alone, branches_from, base_of, Frame, Stack}
 use Rattle.checker.specs.Walking.{Walk}
 use Rattle.checker.proofs.Stacks.{stack_later, stack_push, framed_clause, framed_next, framed_height, framed_below, framed_length}
 
@@ -58,7 +50,7 @@ module _ (I : Problem) (store cells log f : List ℕ) (top depth k : ℕ) (b : B
         rw (e, soft_stored store I w.stored k extensible.here) at (sp.works I.clauses depth b w.works can)
 
     pub frame_room : 3 * depth + 2 < length f
-    frame_room = omega (arith, spent_works.deep, w.frames_size_lem)
+    frame_room = omega (arith, spent_works.deep, w.frames_suffice)
 
     module _ (cells₂ log₂ f' : List ℕ) (top' : ℕ) (fe : f' ≡ framed f depth k (start_in store k + 1) h)
         (g : Gained cells₁ log₁ h (literal_in store (start_in store k)) (weight_in store k) cells₂ log₂ top') where
@@ -96,8 +88,8 @@ module _ (I : Problem) (store cells log f : List ℕ) (top depth k : ℕ) (b : B
             record {
               stored = w.stored;
               works = rw g.height (g.works I.clauses (depth + 1) b₀ spent_works);
-              log_size_lem = rw later.same_log w.log_size_lem;
-              frames_size_lem = rw (fe, framed_length f depth k (start_in store k + 1) h frame_room) w.frames_size_lem;
+              log_suffices = rw later.same_log w.log_suffices;
+              frames_suffice = rw (fe, framed_length f depth k (start_in store k + 1) h frame_room) w.frames_suffice;
               places = rw later.same_cells (later_places later 0 w.places);
               stack =
                   rw (add-one depth)
@@ -152,8 +144,8 @@ module _ (I : Problem) (store cells log f : List ℕ) (top d : ℕ) (b : Branch)
       record {
         stored = w.stored;
         works = record { shows = works.shows; room = rw g'.height works.room; deep = omega (arith, works.deep); light = works.light };
-        log_size_lem = rw g'.later.same_log w.log_size_lem;
-        frames_size_lem = rw same w.frames_size_lem;
+        log_suffices = rw g'.later.same_log w.log_suffices;
+        frames_suffice = rw same w.frames_suffice;
         places = rw g'.later.same_cells (later_places g'.later 0 (rw size (λ e lo hi. w.places e lo (omega arith))));
         stack = st;
       }
@@ -183,7 +175,7 @@ module _ (I : Problem) (store cells log f : List ℕ) (top d : ℕ) (b : Branch)
       let f' : List ℕ = set f (3 * d + 1) (next + 1) in
       let c : clause_of f' d ≡ k = get_or-set_other f (3 * d + 1) (3 * d) (next + 1) 0 (λ e. omega arith) in
       let t : height_of f' d ≡ height_of f d = get_or-set_other f (3 * d + 1) (3 * d + 2) (next + 1) 0 (λ e. omega arith) in
-      let x : next_of f' d ≡ next + 1 = get_or-set_same f (3 * d + 1) (next + 1) 0 (omega (arith, fr.works.deep, w.frames_size_lem)) in
+      let x : next_of f' d ≡ next + 1 = get_or-set_same f (3 * d + 1) (next + 1) 0 (omega (arith, fr.works.deep, w.frames_suffice)) in
       let more = fr.more in
       let since = fr.since in
       let frame : Frame I store f' (base_of f d cells log top) d (height_of f d) b₀ =

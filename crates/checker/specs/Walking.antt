@@ -1,5 +1,5 @@
 -- The walk's memory stands for the list of open branches; what each step does to that list.
-use Rattle.std.specs.Prelude.{ℕ, suc, ◌≤◌, true, List, [], ◌∷◌, ◌++◌, ◌≡◌, length}
+use Rattle.std.specs.Prelude.{ℕ, suc, ◌≤◌, true, List, ◌∷◌, ◌++◌, ◌≡◌, length}
 use Rattle.instance.specs.Memory.{log_size, frames_size}
 use Rattle.instance.specs.Clause.{Problem}
 use Rattle.instance.specs.Store.{Stored}
@@ -14,8 +14,8 @@ use Rattle.checker.specs.Frames.{Stack}
 pub record Walk (I : Problem) (store cells log frames : List ℕ) (top depth : ℕ) (b : Branch) (bs : List Branch) : Type 0 where
   pub stored : Stored store I
   pub works : Works I.clauses cells top depth 0 b
-  pub log_size_lem : log_size ≤ length log
-  pub frames_size_lem : frames_size ≤ length frames
+  pub log_suffices : log_size ≤ length log
+  pub frames_suffice : frames_size ≤ length frames
   pub places : Places log 0 top (length cells)
   pub stack : Stack depth I store frames cells log top bs
 

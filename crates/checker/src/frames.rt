@@ -4,7 +4,7 @@ ghost use Rattle.checker.specs.Frames.{framed};
 ghost use Rattle.checker.specs.Walking.{Extending, Extended, Turning, Turned};
 
 // Where the walk stands: the log's height, and the number of frames.
-#[derive(Drop)]
+#[derive(Clone, Copy)]
 pub struct Level {
     pub top: usize,
     pub depth: usize,
@@ -30,7 +30,7 @@ pub fn extend(
     k: usize,
 ) -> Level
     requires extending { Extending store.now cells.old log.old frames.old at.top at.depth k }
-    requires k_lt_most_clauses { k < most_clauses }
+    requires in_range { k < most_clauses }
     ensures { Extended store.now cells.old log.old frames.old at.top at.depth k
         cells.new log.new frames.new result.top result.depth }
 {

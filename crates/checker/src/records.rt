@@ -5,7 +5,7 @@ ghost use Rattle.checker.specs.Decoding.{decoded_as};
 use calculus::Record;
 
 // What stands at a place of a derivation: a whole record and the place after it, or anything else.
-#[derive(Drop)]
+#[derive(Clone, Copy)]
 pub enum Decoded {
     Whole(Record, usize),
     Broken,

@@ -9,7 +9,7 @@ use calculus::Record;
 use instance::{Claim, Instance};
 
 // What a record does: the walk goes on, the last branch is closed, or the record is refused by a number.
-#[derive(Drop)]
+#[derive(Clone, Copy)]
 pub enum Move {
     On(Level),
     Last,

@@ -71,7 +71,7 @@ pub fn after_claim(
     claim: Claim,
 ) -> Checked
     requires stored { (I : Problem) × Stored store.now I × (n ≡ I.variables) × (k ≡ length I.clauses) }
-    requires cells_size_in_bounds { (cells_size ≤ length cells.old) × (log_size ≤ length log.old) × (frames_size ≤ length frames.old) }
+    requires enough_memory { (cells_size ≤ length cells.old) × (log_size ≤ length log.old) × (frames_size ≤ length frames.old) }
     ensures { (I : Problem) → Stored store.now I → n ≡ I.variables → k ≡ length I.clauses
         → result ≡ walked I claim (items (drop from proof.now)) from 0 (root I.clauses ∷ []) }
 {
