@@ -1,5 +1,5 @@
 -- A number of four bytes.
-use Rattle.std.specs.Prelude.{ℕ, ◌^◌, ◌<◌}
+use Rattle.std.specs.Prelude.{◌^◌, ◌<◌}
 use Rattle.asking.specs.declared.numbers.Number.{Number}
 use Rattle.asking.specs.declared.numbers.Number.TheVariants.{Is, Ended}
 

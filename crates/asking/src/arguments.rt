@@ -2,7 +2,7 @@ ghost use Rattle.std.specs.Prelude.{◌≡◌, ◌≤◌, ◌<◌, length};
 ghost use Rattle.asking.specs.Arguments.{Within};
 
 use crate::numbers::{Number, next_number};
-use libc::STDIN_FILENO;
+use std::io::Read;
 
 // An argument's length, where the memory lent for it holds it and the input has it whole.
 #[derive(Drop)]
@@ -21,21 +21,21 @@ fn stride(left: u64) -> usize
 }
 
 // Passes over some bytes of the input: whether it had so many.
-fn pass_some(chunk: &mut [u8], many: usize) -> bool
+fn pass_some(input: &mut impl Read, chunk: &mut [u8], many: usize) -> bool
     requires { many ≤ length chunk.old }
     ensures { length chunk.new ≡ length chunk.old }
 {
-    io::read_full(STDIN_FILENO, &mut chunk[..many]) == many
+    input.read_exact(&mut chunk[..many]).is_ok()
 }
 
 // Passes over bytes of the input: whether it had so many.
-fn pass(many: u64) -> bool {
-    let mut space = io::buffer();
+fn pass(input: &mut impl Read, many: u64) -> bool {
+    let mut space = [0u8; 4096];
     let chunk: &mut [u8] = &mut space;
     let mut left = many;
     while 0 < left {
         let n = stride(left);
-        if pass_some(chunk, n) {
+        if pass_some(input, chunk, n) {
             left -= n as u64;
         } else {
             return false;
@@ -45,20 +45,20 @@ fn pass(many: u64) -> bool {
 }
 
 // The next argument, into the memory lent for it.
-pub fn next_argument(room: &mut [u8]) -> Argument
+pub fn next_argument(input: &mut impl Read, room: &mut [u8]) -> Argument
     ensures { Within (length room.new) result }
 {
-    let Number::Is(many) = next_number() else {
+    let Number::Is(many) = next_number(input) else {
         return Argument::Ended;
     };
     if (room.len() as u64) < many {
-        if pass(many) {
+        if pass(input, many) {
             return Argument::TooLong;
         }
         return Argument::Ended;
     }
     let n = many as usize;
-    if io::read_full(STDIN_FILENO, &mut room[..n]) < n {
+    if input.read_exact(&mut room[..n]).is_err() {
         return Argument::Ended;
     }
     Argument::Whole(n)

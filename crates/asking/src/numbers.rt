@@ -1,7 +1,7 @@
 ghost use Rattle.std.specs.Prelude.{◌<◌};
 ghost use Rattle.asking.specs.Numbers.{Below};
 
-use libc::STDIN_FILENO;
+use std::io::Read;
 
 #[derive(Drop)]
 pub enum Byte {
@@ -15,9 +15,10 @@ pub enum Number {
     Ended,
 }
 
-pub fn next_byte() -> Byte {
+// The next byte of the input. A read that fails counts as the input's end, here and below.
+pub fn next_byte(input: &mut impl Read) -> Byte {
     let mut one = [0u8; 1];
-    if io::read_full(STDIN_FILENO, &mut one) < 1 {
+    if input.read_exact(&mut one).is_err() {
         return Byte::Ended;
     }
     Byte::Is(one[0])
@@ -30,11 +31,11 @@ fn wide(b: u8) -> u64
 }
 
 // Four bytes, the highest first.
-pub fn next_number() -> Number
+pub fn next_number(input: &mut impl Read) -> Number
     ensures { Below result }
 {
     let mut four = [0u8; 4];
-    if io::read_full(STDIN_FILENO, &mut four) < 4 {
+    if input.read_exact(&mut four).is_err() {
         return Number::Ended;
     }
     let high = wide(four[0]) * 256 + wide(four[1]);

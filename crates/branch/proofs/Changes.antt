@@ -1,18 +1,12 @@
 -- The single changes of a branch, each a store into one cell.
-use Prim.Native.Nat.{ℕ, suc, ◌+◌, ◌<◌}
-use native.Mathlib.Omega.{arith}
-use native.Mathlib.Decide.{ℕ_discrete}
-use mathlib.Core.Bool.{Bool, true, false, not, ◌||◌}
-use mathlib.Core.List.{List, [], ◌∷◌, ◌++◌}
-use mathlib.Core.Path.{◌≡◌, refl, ap, sym, ◌∙◌}
-use lib.ListN.{length, set}
+use Rattle.std.proofs.Common.{ℕ, suc, ◌+◌, ◌<◌, true, false, List, [], ◌∷◌, ◌++◌, ◌≡◌, refl, ap, sym, ◌∙◌, length, set}
 use Rattle.instance.specs.Limits.{most_variables, most_clauses}
-use Rattle.instance.specs.Clause.{Literal, same, soft, Clause}
+use Rattle.instance.specs.Clause.{Literal, soft, Clause}
 use Rattle.instance.specs.Within.{In}
 use Rattle.instance.specs.Store.{flag_of}
-use Rattle.calculus.specs.Branch.{Branch, set_weight, mark, book, kill, with_rules, keep, put_at, put}
+use Rattle.calculus.specs.Branch.{Branch, set_weight, mark, book, kill, with_rules, keep, put}
 use Rattle.branch.specs.Cells.{Cell, booked, dead, weight, marked, shut, at}
-use Rattle.branch.specs.Shows.{extendable, open_in, has, Left, Shows}
+use Rattle.branch.specs.Shows.{extendable, has, Left, Shows}
 use Rattle.branch.proofs.Literals.{same_self, same_other}
 use Rattle.branch.proofs.Clauses.{put_here, put_there, put_remain, remain_length, keep_here, keep_there, keep_shut, keep_remain}
 use Rattle.branch.proofs.Stores.{shows_set}

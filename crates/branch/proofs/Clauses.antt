@@ -1,10 +1,5 @@
 -- Which clauses of a branch can be extended, and what is left of them.
-use Prim.Native.Nat.{ℕ, zero, suc}
-use mathlib.Core.Bool.{Bool, true, false}
-use mathlib.Core.List.{List, [], ◌∷◌, ◌++◌}
-use mathlib.Core.Path.{◌≡◌, refl, ap}
-use lib.ListN.{length}
-use native.Mathlib.Omega.{arith}
+use Rattle.std.proofs.Common.{ℕ, zero, suc, false, List, [], ◌∷◌, ◌++◌, ◌≡◌, refl, ap, length, arith}
 use Rattle.instance.specs.Clause.{soft, Clause}
 use Rattle.calculus.specs.Branch.{put_at, spent, unless}
 use Rattle.branch.specs.Shows.{is_some, extendable, open_in, Left, Remain}

@@ -1,24 +1,17 @@
 -- A contradiction: its stores, case by case, as the calculus has them.
-use Prim.Native.Nat.{ℕ, zero, suc, ◌+◌, ◌*◌, ◌-◌, ◌<◌, ◌≤◌, min}
-use mathlib.Core.Bool.{Bool, true, false, ◌&&◌}
-use mathlib.Core.List.{List}
-use mathlib.Core.Option.{Option, some, none}
-use mathlib.Core.Path.{◌≡◌, refl, ap, sym, subst, ◌∙◌}
-use native.Mathlib.Omega.{arith}
-use native.Mathlib.Decide.{dec_lt, ℕ_discrete}
-use borrow.Author.Tests.{eqb-true, lt-ltb, le-ltb}
-use lib.Dec.{eqb, ltb}
-use lib.ListN.{length, get_or, set, length-set}
-use lib.Seq.{get_or-set_other, set-get_or}
+use Rattle.std.proofs.Common.{ℕ, zero, suc, ◌+◌, ◌*◌, ◌-◌, ◌<◌, ◌≤◌, min, Bool, true, false, ◌&&◌, List, ◌≡◌, refl, ap, sym, ◌∙◌, arith, lt-ltb, le-ltb, eqb, length, get_or, set, length-set, get_or-set_other}
+use Rattle.std.proofs.Math.Option.{Option, some, none}
+use Rattle.std.proofs.Math.Decide.{dec_lt, ℕ_discrete}
+use Rattle.std.proofs.Math.Seq.{set-get_or}
 use Rattle.instance.specs.Limits.{most_variables, most_weight}
 use Rattle.instance.specs.Memory.{cells_size, log_size}
 use Rattle.instance.specs.Clause.{Literal, pos, neg, same, variable_of, Clause}
 use Rattle.instance.specs.Within.{In}
 use Rattle.instance.specs.Store.{code_of, flag_of}
-use Rattle.journal.specs.Undo.{Put, Later}
+use Rattle.journal.specs.Undo.{Put}
 use Rattle.journal.specs.Theorems.Stores.{later_put, later_join}
 use Rattle.calculus.specs.Branch.{Branch, set_weight, book, kill, spend, cancel_by, contradict_by, contradict}
-use Rattle.branch.specs.Cells.{Cell, booked, dead, weight, booked_at, dead_at, marks_at, at, held}
+use Rattle.branch.specs.Cells.{Cell, booked, weight, booked_at, dead_at, marks_at, at}
 use Rattle.branch.specs.Shows.{Shows}
 use Rattle.branch.specs.Works.{sum, entries_of, extensions_of, weights_of, most_entries, Works}
 use Rattle.branch.specs.Contradictions.{Settles, Settled, settled_in, Clashed}
@@ -55,7 +48,7 @@ booked_most a b p q s h = go (ℕ_discrete p 1) (ℕ_discrete q 1)
     go : Dec (p ≡ 1) → Dec (q ≡ 1) → s.booked ≤ a + b
     go (yes e) u = omega (arith, (h.first_hard e).0)
     go (no n) (yes e) = omega (arith, (h.second_hard n e).0)
-    go (no n) (no m) = omega (arith, (h.both_soft_lem n m).0)
+    go (no n) (no m) = omega (arith, (h.both_soft n m).0)
 
 -- ---- the entries of a weight
 some_entries : (l : Literal) (v : ℕ) → 0 < v → entries_of (weight l) v ≡ 3
@@ -296,7 +289,7 @@ module _ (x : ℕ) (lo : 1 ≤ x) (hi : x ≤ most_variables) (cs : List Clause)
         go true false e st = let (eb, ef, es) = st.first_hard refl in meets_first eb ef es
         go false true e st = let (eb, ef, es) = st.second_hard (λ z. omega arith) refl in meets_second eb ef es
         go false false e st =
-            let (eb, ef, es) = st.both_soft_lem (λ z. omega arith) (λ z. omega arith) in
+            let (eb, ef, es) = st.both_soft (λ z. omega arith) (λ z. omega arith) in
             meets_both eb ef es
 
     -- ---- the answers

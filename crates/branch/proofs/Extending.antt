@@ -1,18 +1,14 @@
 -- The stores of an extension.
-use Prim.Native.Nat.{ℕ, zero, suc, ◌+◌, ◌*◌, ◌/◌, ◌<◌, ◌≤◌}
-use mathlib.Core.List.{List}
-use mathlib.Core.Path.{◌≡◌, refl, ap, sym, ◌∙◌}
-use native.Mathlib.Omega.{arith}
-use lib.ListN.{length, get_or}
+use Rattle.std.proofs.Common.{ℕ, zero, suc, ◌+◌, ◌*◌, ◌<◌, ◌≤◌, List, ◌≡◌, refl, arith, length, get_or}
 use Rattle.instance.specs.Limits.{most_variables, most_clauses, most_weight}
 use Rattle.instance.specs.Memory.{cells_size}
 use Rattle.instance.specs.Clause.{soft}
 use Rattle.instance.specs.Within.{In}
-use Rattle.instance.specs.Store.{literal_of, code_of, weight_of}
+use Rattle.instance.specs.Store.{literal_of, weight_of}
 use Rattle.journal.specs.Undo.{Put}
 use Rattle.journal.specs.Theorems.Stores.{later_put}
 use Rattle.calculus.specs.Branch.{unit_of}
-use Rattle.branch.specs.Cells.{weight, marked, shut, marks_at, shuts_at, at}
+use Rattle.branch.specs.Cells.{marks_at, shuts_at, at}
 use Rattle.branch.specs.Extensions.{Coded, Coming, Spent, Gained}
 use Rattle.branch.proofs.Literals.{code_literal, literal_in_lem}
 use Rattle.branch.proofs.Rules.{works_spent, works_mark, works_weight, gain_small}

@@ -1,12 +1,8 @@
 -- Each cell has a place of its own.
-use Prim.Native.Nat.{ℕ, ◌+◌, ◌*◌, ◌-◌, ◌<◌, ◌≤◌}
-use mathlib.Core.Path.{◌≡◌, refl, ap, sym, ◌∙◌}
-use native.Mathlib.Omega.{arith}
-use native.Mathlib.Decide.{dec_lt, ℕ_discrete}
-use borrow.Author.Tests.{ne_eqb, lt-ltb, le-ltb}
+use Rattle.std.proofs.Common.{ℕ, ◌+◌, ◌-◌, ◌<◌, ◌≤◌, ◌≡◌, refl, ap, sym, ◌∙◌, arith, ne_eqb, lt-ltb, le-ltb}
+use Rattle.std.proofs.Math.Decide.{dec_lt, ℕ_discrete}
 use Rattle.instance.specs.Limits.{most_variables}
 use Rattle.instance.specs.Memory.{cells_size}
-use Rattle.instance.specs.Clause.{Literal}
 use Rattle.instance.specs.Store.{literal_of, code_of}
 use Rattle.branch.specs.Cells.{Cell, booked, dead, weight, marked, shut, booked_at, dead_at, marks_at, shuts_at, at, cell_at, Real}
 use Rattle.branch.proofs.Literals.{code_literal, literal_code, literal_in_lem, code_range}

@@ -1,23 +1,18 @@
 -- The root, one clause after another.
-use Prim.Native.Nat.{ℕ, zero, suc, ◌+◌, ◌*◌, ◌-◌, ◌<◌, ◌≤◌}
-use mathlib.Core.Bool.{Bool, true, false, not, ◌&&◌}
-use mathlib.Core.List.{List, [], ◌∷◌, ◌++◌, map}
-use mathlib.Core.Option.{Option, some, none}
-use mathlib.Core.Path.{◌≡◌, refl, ap, sym, ◌∙◌}
-use native.Mathlib.Omega.{arith}
-use native.Mathlib.Decide.{ℕ_discrete}
-use lib.Dec.{eqb, eqb-suc-zero}
-use lib.ListN.{length, get_or, set, take, drop}
+use Rattle.std.proofs.Common.{ℕ, zero, suc, ◌+◌, ◌-◌, ◌<◌, ◌≤◌, Bool, true, false, not, ◌&&◌, List, [], ◌∷◌, ◌++◌, map, ◌≡◌, refl, ap, sym, ◌∙◌, arith, length, get_or, set, take, drop}
+use Rattle.std.proofs.Math.Option.{Option, some, none}
+use Rattle.std.proofs.Math.Decide.{ℕ_discrete}
+use Rattle.std.proofs.Math.Dec.{eqb-suc-zero}
 use Rattle.instance.specs.Limits.{most_variables, most_clauses, most_weight}
 use Rattle.instance.specs.Memory.{cells_size}
-use Rattle.instance.specs.Clause.{Literal, Weight, hard, soft, Body, clause, Clause, Problem, tautology, soft_of, total_of, clause_at}
+use Rattle.instance.specs.Clause.{Literal, Weight, soft, Body, clause, Clause, Problem, tautology, soft_of, total_of}
 use Rattle.instance.specs.Store.{weights_at, flags_at, literals_at, literal_of, code_of, weight_of, flag_of, start_in, end_in, codes_in, literals_in, clause_in, clauses_in, Stored}
 use Rattle.calculus.specs.Branch.{Branch, blank, kill, keep, unit_of, nothing, gain, several, numbered, enter, root_from, root, spent, disjuncts, unless}
 use Rattle.branch.specs.Cells.{Cell, booked, dead, weight, marked, shut, booked_at, dead_at, marks_at, shuts_at, at, Real, held}
 use Rattle.branch.specs.Shows.{is_some, extendable, open_in, has, Left, Shows}
-use Rattle.branch.specs.Works.{sum, entries_of, extensions_of, weights_of, soft_at, Works}
+use Rattle.branch.specs.Works.{sum, entries_of, extensions_of, weights_of, soft_at}
 use Rattle.branch.specs.Extensions.{Coded}
-use Rattle.branch.specs.Roots.{Filled, given, Rooted, Rooting}
+use Rattle.branch.specs.Roots.{Filled, given, Rooting}
 use Rattle.branch.specs.Theorems.Stored.{count_in, part_cons, soft_weight_lem, clause_low, soft_stored, literal_coded}
 use Rattle.branch.proofs.Literals.{code_literal, code_range}
 use Rattle.branch.proofs.Stores.{sum_part, sum_set, sum_none}
@@ -294,7 +289,7 @@ module _ (store : List ℕ) (I : Problem) (k : ℕ) (cells : List ℕ) (r : Root
   unfolding at weights_of
   small_weight c coded = rw (code_literal c) at (small (weight (literal_of c)) (coded_in c coded) refl)
 
--- ---- before the first clause, and after the last
+-- ---- before the first clause
 module _ (cells cells₁ cells₂ : List ℕ) (size : cells_size ≤ length cells) (low : Filled cells booked_at shuts_at 0 cells₁) (high : Filled cells₁ shuts_at cells_size 1 cells₂) where
   is_low : (p : ℕ) → p < shuts_at → get_or cells₂ p 0 ≡ 0
   is_low p lt = high.below p lt ∙ low.inside p (omega arith) lt
@@ -363,15 +358,3 @@ module _ (cells cells₁ cells₂ : List ℕ) (size : cells_size ≤ length cell
       light = omega (arith, no_weight_lem I.clauses);
     };
   }
-
-pub rooting_all : (store : List ℕ) (I : Problem) (k : ℕ) (cells : List ℕ) → Rooting store I k cells → k ≡ length I.clauses
-    → Works I.clauses cells 0 0 0 (root I.clauses)
-rooting_all store I k cells r e =
-    let all : clauses_in store k ≡ I.clauses = ap (clauses_in store) e ∙ r.stored.clauses in
-    let few = r.stored.within.few in
-    record {
-      shows = rw all at r.rooted.shows;
-      room = omega (arith, r.rooted.room);
-      deep = omega (arith, r.rooted.deep);
-      light = omega (arith, r.rooted.light, ap total_of all, r.stored.within.light);
-    }

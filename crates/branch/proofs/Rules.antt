@@ -1,10 +1,5 @@
 -- What each rule leaves of the room: the entries, the extensions and the weight to come.
-use Prim.Native.Nat.{ℕ, zero, suc, ◌+◌, ◌<◌, ◌≤◌}
-use mathlib.Core.Bool.{true, false, not}
-use mathlib.Core.List.{List}
-use mathlib.Core.Path.{◌≡◌, refl, ap, ◌∙◌}
-use native.Mathlib.Omega.{arith}
-use lib.ListN.{set}
+use Rattle.std.proofs.Common.{ℕ, zero, suc, ◌+◌, ◌<◌, ◌≤◌, true, false, not, List, ◌≡◌, ap, ◌∙◌, arith, set}
 use Rattle.instance.specs.Limits.{most_variables, most_clauses, most_weight}
 use Rattle.instance.specs.Clause.{Literal, soft, Clause}
 use Rattle.instance.specs.Within.{In}
@@ -12,7 +7,7 @@ use Rattle.instance.specs.Store.{flag_of}
 use Rattle.calculus.specs.Branch.{Branch, set_weight, mark, kill, put}
 use Rattle.branch.specs.Cells.{dead, weight, marked, shut, at, held}
 use Rattle.branch.specs.Shows.{open_in, has}
-use Rattle.branch.specs.Works.{sum, entries_of, extensions_of, weights_of, soft_at, most_entries, Works}
+use Rattle.branch.specs.Works.{entries_of, extensions_of, weights_of, soft_at, most_entries, Works}
 use Rattle.branch.proofs.Stores.{sum_part, sum_set}
 use Rattle.branch.proofs.Changes.{shows_weight, shows_mark, shows_kill, shows_spent}
 

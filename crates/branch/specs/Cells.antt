@@ -1,6 +1,6 @@
 -- The cells of a branch: what it has booked, whether it is dead, the weight and the mark of each literal by its code, and for
 -- each clause whether it can't be extended any more.
-use Rattle.std.specs.Prelude.{ℕ, ◌+◌, ◌*◌, ◌-◌, ◌<◌, Bool, true, false, List, eqb, ltb, get_or}
+use Rattle.std.specs.Prelude.{ℕ, ◌+◌, ◌*◌, ◌-◌, ◌<◌, true, false, List, eqb, ltb, get_or}
 use Rattle.instance.specs.Limits.{most_variables, most_clauses}
 use Rattle.instance.specs.Clause.{Literal}
 use Rattle.instance.specs.Within.{In}

@@ -18,7 +18,7 @@ Alive cells top = (cs : List Clause) × (d : ℕ) × (b : Branch) × Works cs ce
 pub record Settles (a b p q : ℕ) (s : Settlement) : Type 0 where
   pub first_hard : p ≡ 1 → (s.booked ≡ b) × (s.first ≡ a) × (s.second ≡ 0)
   pub second_hard : (p ≡ 1 → ⊥) → q ≡ 1 → (s.booked ≡ a) × (s.first ≡ 0) × (s.second ≡ b)
-  pub both_soft_lem : (p ≡ 1 → ⊥) → (q ≡ 1 → ⊥) → (s.booked ≡ min a b) × (s.first ≡ a - min a b) × (s.second ≡ b - min a b)
+  pub both_soft : (p ≡ 1 → ⊥) → (q ≡ 1 → ⊥) → (s.booked ≡ min a b) × (s.first ≡ a - min a b) × (s.second ≡ b - min a b)
 
 -- the cells with a settlement of the literals p and q stored
 abbrev pub settled_in : List ℕ → ℕ → ℕ → Settlement → List ℕ

@@ -1,5 +1,5 @@
 -- The root's cells, clause by clause.
-use Rattle.std.specs.Prelude.{ℕ, ◌+◌, ◌*◌, ◌<◌, ◌≤◌, Bool, true, false, List, ◌≡◌, eqb, length, get_or, set}
+use Rattle.std.specs.Prelude.{ℕ, ◌+◌, ◌*◌, ◌<◌, ◌≤◌, true, false, List, ◌≡◌, eqb, length, get_or, set}
 use Rattle.instance.specs.Clause.{Problem, total_of}
 use Rattle.instance.specs.Store.{clauses_in, Stored}
 use Rattle.calculus.specs.Branch.{root}

@@ -65,8 +65,8 @@ fn both_hard(a_mark: u64, b_mark: u64) -> bool
 
 // Stores a settlement of the literals p and q.
 fn book(cells: &mut [u64], log: &mut [u64], top: usize, p: usize, q: usize, s: Settlement) -> usize
-    requires cells_size_in_bounds { (cells_size ≤ length cells.old) × (p < cells_size) × (q < cells_size) × (2 * top + 5 < length log.old) }
-    requires booked_at_lt_p { (booked_at < p) × (booked_at < q) × (get_or cells.old booked_at 0 + s.booked < 2 ^ 64) }
+    requires in_bounds { (cells_size ≤ length cells.old) × (p < cells_size) × (q < cells_size) × (2 * top + 5 < length log.old) }
+    requires booking_fits { (booked_at < p) × (booked_at < q) × (get_or cells.old booked_at 0 + s.booked < 2 ^ 64) }
     ensures { Settled cells.old log.old top p q s cells.new log.new result }
 {
     let total = cells[BOOKED] + s.booked;
@@ -78,7 +78,7 @@ fn book(cells: &mut [u64], log: &mut [u64], top: usize, p: usize, q: usize, s: S
 // Contradiction at variable x, on a branch that is not dead.
 pub fn contradict(cells: &mut [u64], log: &mut [u64], top: usize, x: usize) -> Clash
     requires alive { Alive cells.old top }
-    requires le_x { (1 ≤ x) × (x ≤ most_variables) × (log_size ≤ length log.old) }
+    requires in_range { (1 ≤ x) × (x ≤ most_variables) × (log_size ≤ length log.old) }
     ensures { (cs : List Clause) (d : ℕ) (b : Branch) → Works cs cells.old top d 0 b → b.dead ≡ false
         → Clashed cs d cells.old log.old top cells.new log.new result (contradicted x b) }
 {

@@ -7,8 +7,8 @@ use crate::{MARKS, SHUTS};
 
 // The clause of number k + 1 is extended below.
 pub fn spend(cells: &mut [u64], log: &mut [u64], top: usize, k: usize) -> usize
-    requires fact { Open cells.old top k }
-    requires k_lt_most_clauses { (k < most_clauses) × (log_size ≤ length log.old) }
+    requires open_clause { Open cells.old top k }
+    requires in_range { (k < most_clauses) × (log_size ≤ length log.old) }
     ensures { Spent cells.old log.old top k cells.new log.new result }
 {
     journal::put(cells, log, top, SHUTS + k, 1)
@@ -17,7 +17,7 @@ pub fn spend(cells: &mut [u64], log: &mut [u64], top: usize, k: usize) -> usize
 // A literal gains a weight, or the hard mark where that is 0.
 pub fn gain(cells: &mut [u64], log: &mut [u64], top: usize, literal: usize, weight: u64) -> usize
     requires coming { Coming cells.old top weight }
-    requires coded { Coded literal × (log_size ≤ length log.old) }
+    requires in_range { Coded literal × (log_size ≤ length log.old) }
     ensures { Gained cells.old log.old top literal weight cells.new log.new result }
 {
     if weight == 0 {

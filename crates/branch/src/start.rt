@@ -64,7 +64,7 @@ fn enter(store: &[u64], cells: &mut [u64], k: usize)
 // The root's cells, from the k clauses of the store.
 pub fn root(store: &[u64], cells: &mut [u64], k: usize)
     requires stored { (I : Problem) × Stored store.now I × (k ≡ length I.clauses) }
-    requires cells_size_in_bounds { cells_size ≤ length cells.old }
+    requires enough_cells { cells_size ≤ length cells.old }
     ensures { (I : Problem) → Stored store.now I → k ≡ length I.clauses
         → Works I.clauses cells.new 0 0 0 (rootOf I.clauses) }
 {

@@ -1,6 +1,10 @@
 ghost use Rattle.std.specs.Prelude.{length};
 ghost use Rattle.check_series.specs.Loads.{Within};
 
+use std::fs;
+use std::io::Read;
+use std::rt::Files;
+
 const MOST: usize = 16384;
 
 // How many bytes a file has; or it can't be read, or has too many.
@@ -11,29 +15,30 @@ pub enum Loaded {
 }
 
 // Reads a file that is open. A folder opens and can't be read.
-fn fill(file: i32, room: &mut [u8]) -> Loaded
+fn fill(file: &mut impl Read, room: &mut [u8]) -> Loaded
     ensures { Within (length room.new) result }
 {
-    let got = libc::read(file, room);
-    if got < 0 {
-        return Loaded::Unread;
+    let mut all = 0;
+    while all < room.len() {
+        let Ok(n) = file.read(&mut room[all..]) else {
+            return Loaded::Unread;
+        };
+        if n == 0 {
+            break;
+        }
+        all += n;
     }
-    let n = io::count(got, room);
-    let all = n + io::read_full(file, &mut room[n..]);
     if MOST < all {
         return Loaded::Unread;
     }
     Loaded::Whole(all)
 }
 
-pub fn load(name: &[u8], room: &mut [u8]) -> Loaded
+pub fn load(rt: &impl Files, name: &str, room: &mut [u8]) -> Loaded
     ensures { Within (length room.new) result }
 {
-    let file = os::open_read(name);
-    if file < 0 {
+    let Ok(mut file) = fs::open(rt, name) else {
         return Loaded::Unread;
-    }
-    let loaded = fill(file, room);
-    libc::close(file);
-    loaded
+    };
+    fill(&mut file, room)
 }

@@ -8,29 +8,27 @@ mod space;
 use files::{Loaded, load};
 use judge::judge_series;
 use space::file_space;
+use std::io;
 use telling::{tell, tell_end};
 
-fn unread(name: &[u8]) {
-    tell(b"unread ");
-    tell(name);
-    tell_end();
+fn unread(rt: &impl Print, name: &str) -> io::Result<()> {
+    tell(rt, b"unread ")?;
+    tell(rt, name.as_bytes())?;
+    tell_end(rt)
 }
 
-fn main() {
+fn main(rt: HostRuntime) -> io::Result<()> {
     let mut text = file_space();
-    let Loaded::Whole(t) = load(b"series.wcnf", &mut text) else {
-        unread(b"series.wcnf");
-        return;
+    let Loaded::Whole(t) = load(&rt, "series.wcnf", &mut text) else {
+        return unread(&rt, "series.wcnf");
     };
     let mut bytes = file_space();
-    let Loaded::Whole(b) = load(b"series.asg", &mut bytes) else {
-        unread(b"series.asg");
-        return;
+    let Loaded::Whole(b) = load(&rt, "series.asg", &mut bytes) else {
+        return unread(&rt, "series.asg");
     };
     let mut proof = file_space();
-    let Loaded::Whole(p) = load(b"series.prf", &mut proof) else {
-        unread(b"series.prf");
-        return;
+    let Loaded::Whole(p) = load(&rt, "series.prf", &mut proof) else {
+        return unread(&rt, "series.prf");
     };
-    judge_series(&text[..t], &bytes[..b], &proof[..p]);
+    judge_series(&rt, &text[..t], &bytes[..b], &proof[..p])
 }

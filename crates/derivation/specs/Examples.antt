@@ -1,9 +1,9 @@
--- The examples of 01 ("Examples to prove"), in its order and with its bytes and numbers.
-use Rattle.std.specs.Prelude.{ℕ, List, [], ◌∷◌, ◌++◌, map, ◌≡◌, refl}
+-- The examples of 01 ("Examples to prove"), in its order and with its bytes and numbers. That they hold is proved in
+-- proofs/Examples.antt.
+use Rattle.std.specs.Prelude.{ℕ, List, [], ◌∷◌, ◌++◌}
 use Prim.Native.String.{String}
 use Rattle.instance.specs.Answers.{Told, values, refused, check_told}
 use Rattle.instance.specs.Clause.{opposite, tautology, clause_at}
-use Rattle.instance.specs.Refusals.{staged}
 use Rattle.instance.specs.declared.answers.Aim.{Aim}
 use Rattle.reader.specs.Quoted.{text, sheet_pair}
 use Rattle.valuation.specs.Examples.{value_tells}
@@ -27,53 +27,41 @@ use Rattle.derivation.specs.Bytes.{
   all_bytes,
 }
 use Rattle.derivation.specs.Check.{followed, shown, claimed, check_of}
-use Rattle.derivation.specs.Write.{
-  Outcome,
-  derivation,
-  turned_away,
-  refuted,
-  bit,
-  found_bytes,
-  finished,
-  written,
-  cheapest,
-  aimed,
-  write_of,
-}
+use Rattle.derivation.specs.Write.{Outcome, bit, found_bytes, finished, written, cheapest, aimed, write_of}
 
 -- the records' bytes, at small numbers
-M : ℕ → List ℕ
+unfoldable pub M : ℕ → List ℕ
 M m = 0x4D ∷ 0 ∷ 0 ∷ 0 ∷ 0 ∷ 0 ∷ 0 ∷ 0 ∷ m ∷ []
 
-N : List ℕ
+unfoldable pub N : List ℕ
 N = 0x4E ∷ []
 
-E : ℕ → List ℕ
+unfoldable pub E : ℕ → List ℕ
 E i = 0x45 ∷ 0 ∷ i ∷ []
 
-C : ℕ → List ℕ
+unfoldable pub C : ℕ → List ℕ
 C x = 0x43 ∷ 0 ∷ x ∷ []
 
-Q : List ℕ
+unfoldable pub Q : List ℕ
 Q = 0x51 ∷ []
 
 -- the outcomes: the claim's byte, m (0 under N) and the number of records after the claim
-minimum : ℕ → ℕ → Told
+unfoldable pub minimum : ℕ → ℕ → Told
 minimum m records = values (0x4D ∷ m ∷ records ∷ [])
 
-infeasible : ℕ → Told
+unfoldable pub infeasible : ℕ → Told
 infeasible records = values (0x4E ∷ 0 ∷ records ∷ [])
 
-record Row : Type 0 where
-  instance : String
-  assignment : List ℕ
-  records : List ℕ
-  outcome : Told
+pub record Row : Type 0 where
+  pub instance : String
+  pub assignment : List ℕ
+  pub records : List ℕ
+  pub outcome : Told
 
-row : String → List ℕ → List ℕ → Told → Row
+unfoldable pub row : String → List ℕ → List ℕ → Told → Row
 row t a r o = record { instance = t; assignment = a; records = r; outcome = o }
 
-table : List Row
+unfoldable pub table : List Row
 table =
     row "" [] (M 0 ++ Q) (minimum 0 1) ∷
     row "" [] (M 0) (refused 19 9) ∷
@@ -90,20 +78,15 @@ table =
     row sheet_pair (0 ∷ 1 ∷ []) (M 2 ++ E 1 ++ C 1 ++ Q ++ C 2 ++ Q) (minimum 2 5) ∷
     row sheet_pair (1 ∷ 0 ∷ []) (M 3 ++ E 1 ++ C 1 ++ Q ++ C 2 ++ Q) (refused 18 19) ∷ []
 
-check_tells : Row → Told
+unfoldable pub check_tells : Row → Told
 unfolding value_tells check_told check_of claimed shown followed opposite tautology clause_at items items_after body_size item_at whole_if claim_at claim_size body number number_from walk step contradicting settled extending offered closing closable size branch.blank branch.set_weight branch.mark branch.book branch.kill branch.with_rules branch.keep branch.put_at branch.put branch.unit_of branch.nothing branch.gain branch.several branch.numbered branch.enter branch.root_from branch.root branch.spent branch.disjuncts branch.branches branch.unless branch.extend_by branch.extend branch.spend branch.cancel_by branch.contradict_by branch.contradict
 check_tells r = check_told (check_of (text r.instance) r.assignment r.records)
 
-expected : Row → Told
+unfoldable pub expected : Row → Told
 expected r = r.outcome
 
--- Check gives each row's outcome.
-examples_hold : map check_tells table ≡ map expected table
-unfolding table row M N E C Q minimum infeasible check_tells expected
-examples_hold = refl
-
 -- The refusals that the fourteen don't show, and their order: text, claim, assignment, records.
-further : List Row
+unfoldable pub further : List Row
 further =
     row "x" [] [] (refused 2 0) ∷
     row "h 1 0" (2 ∷ []) [] (refused 11 0) ∷
@@ -128,23 +111,12 @@ further =
     row "h 1 0" [] (N ++ C 2) (refused 16 1) ∷
     row "h 1 0" [] (N ++ Q) (refused 18 1) ∷ []
 
-further_hold : map check_tells further ≡ map expected further
-unfolding further row M N E C Q check_tells expected
-further_hold = refl
-
--- Write on the sheet pair: for 00 01 the twenty bytes, where there is room for them; with a byte less, 21 with the 19 bytes
--- written before the last record; for 01 00, with room enough, 22 and found 00 01.
-twenty : List ℕ
+-- what Write gives on the sheet pair for 00 01
+unfoldable pub twenty : List ℕ
 twenty =
     0x4D ∷ 0x00 ∷ 0x00 ∷ 0x00 ∷ 0x00 ∷ 0x00 ∷ 0x00 ∷ 0x00 ∷ 0x02 ∷ 0x45 ∷ 0x00 ∷ 0x01 ∷
     0x43 ∷ 0x00 ∷ 0x01 ∷ 0x51 ∷ 0x43 ∷ 0x00 ∷ 0x02 ∷ 0x51 ∷ []
 
-writes : List ℕ → ℕ → Outcome
+unfoldable pub writes : List ℕ → ℕ → Outcome
 unfolding check_tells write_of aimed cheapest written finished found_bytes bit octets claim_bytes record_bytes all_bytes from candidates first also write_from found
 writes assignment room = write_of Aim.Cheapest (text sheet_pair) assignment room
-
-sheet_pair_written :
-    writes (0 ∷ 1 ∷ []) 20 ∷ writes (0 ∷ 1 ∷ []) 19 ∷ writes (1 ∷ 0 ∷ []) 100 ∷ [] ≡
-    derivation twenty 5 ∷ turned_away (staged 21 19) ∷ refuted (0 ∷ 1 ∷ []) ∷ []
-unfolding writes twenty
-sheet_pair_written = refl

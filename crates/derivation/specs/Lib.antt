@@ -3,4 +3,3 @@ pub mod Check
 pub mod Write
 pub mod Examples
 pub mod Demands
-pub mod Theorems

@@ -1,53 +1,53 @@
 use instance::{Checked, Claim, Stage};
-use libc::STDOUT_FILENO;
+use std::io;
 
-pub fn tell(words: &[u8]) {
-    io::write_all(STDOUT_FILENO, words);
+pub fn tell(rt: &impl Print, words: &[u8]) -> io::Result<()> {
+    rt.write_all(words)
 }
 
-pub fn tell_number(n: u64) {
-    io::print_decimal(STDOUT_FILENO, n);
+pub fn tell_number(rt: &impl Print, n: u64) -> io::Result<()> {
+    rt.print(n)
 }
 
 // The end of a line.
-pub fn tell_end() {
-    tell(b"\n");
+pub fn tell_end(rt: &impl Print) -> io::Result<()> {
+    tell(rt, b"\n")
 }
 
-fn tell_refusal(number: u64, place: usize) {
-    tell(b"refused ");
-    tell_number(number);
-    tell(b" at ");
-    tell_number(place as u64);
+fn tell_refusal(rt: &impl Print, number: u64, place: usize) -> io::Result<()> {
+    tell(rt, b"refused ")?;
+    tell_number(rt, number)?;
+    tell(rt, b" at ")?;
+    tell_number(rt, place as u64)
 }
 
 // `refused 18 at 19`: the number and the place, whatever the stage.
-pub fn tell_refused(s: Stage) {
+pub fn tell_refused(rt: &impl Print, s: Stage) -> io::Result<()> {
     match s {
-        Stage::Memory(number, place) => tell_refusal(number, place),
-        Stage::Text(number, place) => tell_refusal(number, place),
-        Stage::Assignment(number, place) => tell_refusal(number, place),
-        Stage::Derivation(number, place) => tell_refusal(number, place),
-        Stage::Writing(number, place) => tell_refusal(number, place),
+        Stage::Memory(number, place) => tell_refusal(rt, number, place),
+        Stage::Text(number, place) => tell_refusal(rt, number, place),
+        Stage::Assignment(number, place) => tell_refusal(rt, number, place),
+        Stage::Derivation(number, place) => tell_refusal(rt, number, place),
+        Stage::Writing(number, place) => tell_refusal(rt, number, place),
     }
 }
 
 // `accepted minimum 2 steps 5`, `accepted infeasible steps 1`, or the refusal.
-pub fn tell_checked(answer: Checked) {
+pub fn tell_checked(rt: &impl Print, answer: Checked) -> io::Result<()> {
     match answer {
         Checked::Accepted(claim, steps) => {
             match claim {
                 Claim::Minimum(m) => {
-                    tell(b"accepted minimum ");
-                    tell_number(m);
+                    tell(rt, b"accepted minimum ")?;
+                    tell_number(rt, m)?;
                 }
                 Claim::Infeasible => {
-                    tell(b"accepted infeasible");
+                    tell(rt, b"accepted infeasible")?;
                 }
             }
-            tell(b" steps ");
-            tell_number(steps as u64);
+            tell(rt, b" steps ")?;
+            tell_number(rt, steps as u64)
         }
-        Checked::Refused(s) => tell_refused(s),
+        Checked::Refused(s) => tell_refused(rt, s),
     }
 }

@@ -1,14 +1,13 @@
 -- Better of two, case by case.
 use Prim.Native.Nat.{ℕ, ◌≤◌, ◌<◌}
-use mathlib.Core.Bool.{Bool, true, false}
+use mathlib.Core.Bool.{true, false}
 use mathlib.Core.List.{List}
-use mathlib.Core.Path.{◌≡◌, refl, ap, subst, sym, ◌∙◌}
+use mathlib.Core.Path.{◌≡◌, ◌∙◌}
 use borrow.Author.Tests.{eq-eqb, ne_eqb, le-leb, lt-leb}
 use lib.Dec.{ltb}
 use lib.ListN.{length, drop}
 use denote.Ref.{Bor}
 use Rattle.instance.specs.Memory.{store_size, ample, cleared, returned}
-use Rattle.instance.specs.Refusals.{staged}
 use Rattle.instance.specs.declared.answers.Valued.{Valued}
 use Rattle.instance.specs.declared.refusals.Stage.{Stage}
 use Rattle.instance.specs.Clause.{Problem}

@@ -155,13 +155,7 @@ sum_within store bytes k K first weight t h l =
         whole : K - suc k + suc k ≡ K
         whole = omega arith
 
--- no clause, and all of them
+-- no clause
 pub tally_none : (store bytes : List ℕ) → Tallied store bytes 0 0 0
 unfolding clauses_in first_broken first_broken_from cost
 tally_none store bytes = record { breaks = refl; falsifies = refl }
-
-pub tally_end : (store bytes : List ℕ) (k K first weight : ℕ) → k ≤ K → K ≤ k → Tallied store bytes k first weight → Tallied store bytes K first weight
-tally_end store bytes k K first weight p q t = subst (λ j. Tallied store bytes j first weight) same t
-  where
-    same : k ≡ K
-    same = omega arith

@@ -7,7 +7,7 @@ use instance::{STORE, Surveyed, Valued, clear};
 use reader::read;
 
 // Which of the two lent assignments is handed back; neither stands for the empty part at the start of the first.
-#[derive(Drop)]
+#[derive(Clone, Copy)]
 pub enum Choice {
     First,
     Second,
@@ -46,8 +46,8 @@ fn choose(first: Valued, second: Valued) -> Choice
 fn choice_left(text: &[u8], first: &[u8], second: &[u8], store: &mut [u64]) -> Choice
     requires { store_size ≤ length store.old }
     ensures value { result ≡ better_of text.now first.now second.now }
-    ensures store_unchanged { drop store_size store.new ≡ drop store_size store.old }
-    ensures store_len_unchanged { length store.new ≡ length store.old }
+    ensures beyond_kept { drop store_size store.new ≡ drop store_size store.old }
+    ensures length_kept { length store.new ≡ length store.old }
 {
     let Surveyed::Counted(i) = read(text, store) else {
         return Choice::Neither;

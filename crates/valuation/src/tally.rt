@@ -8,7 +8,7 @@ use crate::falsify::falsifies;
 use instance::WEIGHTS_AT;
 
 // Of the clauses gone through: the number of the first broken hard one (0 if none), and the soft weight falsified.
-#[derive(Drop)]
+#[derive(Clone, Copy)]
 pub struct Tally {
     pub first: usize,
     pub weight: u64,
@@ -16,8 +16,8 @@ pub struct Tally {
 
 // The tally with the clause of number k + 1.
 fn with_clause(store: &[u64], clauses: usize, k: usize, bytes: &[u8], t: Tally) -> Tally
-    requires k_lt_clauses { (k < clauses) × Laid store.now (length bytes.now) clauses }
-    requires clauses_bound { total_of (clauses_in store.now clauses) ≤ most_weight }
+    requires stored { (k < clauses) × Laid store.now (length bytes.now) clauses }
+    requires light { total_of (clauses_in store.now clauses) ≤ most_weight }
     requires tallied { Tallied store.now bytes.now k t.first t.weight }
     ensures { Tallied store.now bytes.now (suc k) result.first result.weight }
 {
@@ -44,7 +44,7 @@ fn with_clause(store: &[u64], clauses: usize, k: usize, bytes: &[u8], t: Tally) 
 // The tally of all clauses in the store.
 pub fn tallied(store: &[u64], clauses: usize, bytes: &[u8]) -> Tally
     requires laid { Laid store.now (length bytes.now) clauses }
-    requires clauses_bound { total_of (clauses_in store.now clauses) ≤ most_weight }
+    requires light { total_of (clauses_in store.now clauses) ≤ most_weight }
     ensures { Tallied store.now bytes.now clauses result.first result.weight }
 {
     let mut t = Tally {

@@ -43,8 +43,8 @@ pub fn valued(store: &[u64], n: u64, clauses: usize, bytes: &[u8]) -> Valued
 fn value_left(text: &[u8], bytes: &[u8], store: &mut [u64]) -> Valued
     requires { store_size ≤ length store.old }
     ensures value { result ≡ value_of text.now bytes.now }
-    ensures store_unchanged { drop store_size store.new ≡ drop store_size store.old }
-    ensures store_len_unchanged { length store.new ≡ length store.old }
+    ensures beyond_kept { drop store_size store.new ≡ drop store_size store.old }
+    ensures length_kept { length store.new ≡ length store.old }
 {
     match read(text, store) {
         Surveyed::Counted(i) => valued(store, i.variables, i.clauses, bytes),

@@ -5,7 +5,7 @@ ghost use Rattle.verdict.specs.Claims.{claimed_as};
 use instance::Claim;
 
 // What a derivation begins with: a whole claim and the place after it, or anything else.
-#[derive(Drop)]
+#[derive(Clone, Copy)]
 pub enum Claimed {
     Whole(Claim, usize),
     Nothing,

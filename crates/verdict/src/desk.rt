@@ -23,8 +23,8 @@ pub fn suffices(store: usize, cells: usize, log: usize, frames: usize) -> bool
 // Sets the four workspaces to zero, each up to its constant.
 pub fn wipe(store: &mut [u64], cells: &mut [u64], log: &mut [u64], frames: &mut [u64])
     requires { (store_size ≤ length store.old) × Ample cells.old log.old frames.old }
-    ensures store_after { (store.new ≡ cleared store_size store.old) × (cells.new ≡ cleared cells_size cells.old) }
-    ensures log_after { (log.new ≡ cleared log_size log.old) × (frames.new ≡ cleared frames_size frames.old) }
+    ensures store_and_cells { (store.new ≡ cleared store_size store.old) × (cells.new ≡ cleared cells_size cells.old) }
+    ensures log_and_frames { (log.new ≡ cleared log_size log.old) × (frames.new ≡ cleared frames_size frames.old) }
 {
     clear(store, STORE);
     clear(cells, CELLS);

@@ -1,16 +1,16 @@
 -- What the calculus gives of an extension, by whether the clause can be extended.
-use Rattle.std.specs.Prelude.{ℕ, zero, suc, ◌+◌, ◌-◌, ◌<◌, ◌≤◌, Bool, not, ◌&&◌, List, [], ◌∷◌, map, ◌≡◌, length, get_or, take, drop}
+use Rattle.std.specs.Prelude.{ℕ, zero, suc, ◌+◌, ◌<◌, ◌≤◌, Bool, not, ◌&&◌, List, [], ◌∷◌, map, ◌≡◌, length, get_or}
 use Rattle.std.proofs.Math.Bool.{true, false}
 use Rattle.std.proofs.Math.Option.{Option, some, none}
 use Rattle.std.proofs.Math.Path.{refl}
 use Rattle.std.proofs.Common.{ap, sym, ◌∙◌, arith, length-take}
 use Rattle.std.proofs.lemmas.List.{length-map}
 use Rattle.instance.specs.Clause.{Literal, Weight, soft, Body, clause, Clause, Problem, clause_at, tautology}
-use Rattle.instance.specs.Store.{weights_at, literals_at, literal_of, weight_of, start_in, end_in, codes_in, literals_in, clause_in, Stored}
+use Rattle.instance.specs.Store.{weights_at, weight_of, start_in, end_in, literals_in, clause_in, Stored}
 use Rattle.calculus.specs.Branch.{Branch, put, several, spent, disjuncts, branches, unless, extend_by, extend}
 use Rattle.calculus.specs.Derivation.{Step, stop, go, offered, extending}
 use Rattle.branch.specs.Shows.{is_some, extendable, open_in, Left, Remain}
-use Rattle.branch.specs.Theorems.Stored.{at_low, clause_stored}
+use Rattle.branch.specs.Theorems.Stored.{clause_stored}
 
 never : {A : Type 0} → ◌≡◌ {A = Bool} true false → A
 never e = absurd (let z : ◌≡◌ {A = ℕ} 0 1 = cc in omega arith)

@@ -1,9 +1,9 @@
 -- What the store of an instance holds of each clause.
-use Rattle.std.specs.Prelude.{ℕ, zero, suc, ◌+◌, ◌-◌, ◌*◌, ◌/◌, ◌<◌, ◌≤◌, List, [], ◌∷◌, ◌++◌, map, ◌≡◌, refl, length, get_or, take, drop}
-use Rattle.std.proofs.Math.Option.{Option, some, none}
+use Rattle.std.specs.Prelude.{ℕ, zero, suc, ◌+◌, ◌-◌, ◌/◌, ◌<◌, ◌≤◌, List, [], ◌∷◌, ◌++◌, ◌≡◌, refl, length, get_or, take, drop}
+use Rattle.std.proofs.Math.Option.{some}
 use Rattle.std.proofs.Common.{ap, sym, ◌∙◌, arith, length-append, length-take, length-drop, drop-cons, get_or-take, get_or-drop}
 use Rattle.std.proofs.Math.Decide.{ℕ_discrete}
-use Rattle.instance.specs.Limits.{most_variables, most_clauses}
+use Rattle.instance.specs.Limits.{most_clauses}
 use Rattle.instance.specs.Clause.{Clause, Problem, clause_at, soft_of}
 use Rattle.instance.specs.Within.{Every}
 use Rattle.instance.specs.Store.{weights_at, literals_at, weight_of, start_in, end_in, codes_in, clause_in, clauses_in, Stored}
