@@ -1,11 +1,11 @@
 -- Laws of spans: how a loop passes the bytes of a kind.
-use Prim.Native.Nat.{ℕ, suc, ◌+◌, ◌-◌, ◌≤◌, ◌<◌}
+use Prim.Native.Nat.{ℕ, suc, ◌+◌, ◌≤◌, ◌<◌}
 use mathlib.Core.Bool.{Bool, true, false}
 use mathlib.Core.List.{List, [], ◌∷◌}
 use mathlib.Core.Path.{◌≡◌, refl, ap, ◌∙◌}
 use native.Mathlib.Omega.{arith}
 use native.Mathlib.Numerals.{add-one}
-use lib.ListN.{length, get_or, take, drop, length-take, length-drop, drop_of_length-le}
+use lib.ListN.{length, get_or, drop, length-drop, drop_of_length-le}
 use lib.Seq.{drop-cons}
 use Rattle.instance.specs.Theorems.Choices.{on_test}
 use Rattle.reader.specs.Lines.{blank, in_token}
@@ -89,7 +89,3 @@ token_found {text} {from} {at} {end} h e f =
       order = omega arith;
       within = omega (arith, past_within in_token text at (omega (arith, past_within blank text from h)));
     }
-
-pub token_some : {text : List ℕ} {from at end : ℕ} → TokenAt text from at end → at < end
-    → 0 < length (take (end - at) (drop at text))
-token_some {text} {from} {at} {end} t h = omega (arith, t, length-take (end - at) (drop at text), length-drop at text)

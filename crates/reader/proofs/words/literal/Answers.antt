@@ -32,5 +32,5 @@ returns-in-Over c = by_number _ _ _ c.requires _ c.in-Over.ensures
 
 pub returns-else-written-ge-LITERALS : goal.returns-else-written-ge-LITERALS
 returns-else-written-ge-LITERALS c =
-    literal_few _ (coded c.args.sign) c.in-Value.x c.if-written-ge-LITERALS.false
+    literal_few c.args.written (coded c.args.sign) c.in-Value.x (omega arith)
     ∙ by_number _ _ _ c.requires _ c.in-Value.ensures
