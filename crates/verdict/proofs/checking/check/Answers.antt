@@ -29,8 +29,7 @@ slice_bounds-answer-end-then-suffices-7 c =
 pub answer-r-requires : goal.answer-r-requires
 answer-r-requires c =
     let a = c.args in
-    let z = sized (length a.store.now) (length a.cells.now) (length a.log.now) (length a.frames.now) _ c.suffices.ensures c.if-suffices.true in
-    (
+    let z = sized (length a.store.now) (length a.cells.now) (length a.log.now) (length a.frames.now) _ c.suffices.ensures c.if-suffices.true in (
       omega (arith, lent_part store_size a.store.now z.of_store),
       lent_ample a.cells.now a.log.now a.frames.now z.of_cells z.of_log z.of_frames,
     )
@@ -39,8 +38,7 @@ pub wipe-requires : goal.wipe-requires
 wipe-requires c =
     let a = c.args in
     let r = c.answer-r in
-    let z = sized (length a.store.now) (length a.cells.now) (length a.log.now) (length a.frames.now) _ c.suffices.ensures c.if-suffices.true in
-    (
+    let z = sized (length a.store.now) (length a.cells.now) (length a.log.now) (length a.frames.now) _ c.suffices.ensures c.if-suffices.true in (
       whole_size store_size a.store.now r.new.store z.of_store r.auto.store,
       record {
         of_cells = whole_size cells_size a.cells.now r.new.cells z.of_cells r.auto.cells;
