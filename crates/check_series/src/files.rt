@@ -34,10 +34,14 @@ fn fill(file: &mut impl Read, room: &mut [u8]) -> Loaded
     Loaded::Whole(all)
 }
 
-pub fn load(rt: &impl Files, name: &str, room: &mut [u8]) -> Loaded
+// A file by its name. A name that is no text can't be read: std's paths are text.
+pub fn load(rt: &impl Files, name: &[u8], room: &mut [u8]) -> Loaded
     ensures { Within (length room.new) result }
 {
-    let Ok(mut file) = fs::open(rt, name) else {
+    let Ok(path) = str::from_utf8(name) else {
+        return Loaded::Unread;
+    };
+    let Ok(mut file) = fs::open(rt, path) else {
         return Loaded::Unread;
     };
     fill(&mut file, room)
