@@ -5,7 +5,7 @@ use crate::numbers::{Number, next_number};
 use std::io::Read;
 
 // An argument's length, where the memory lent for it holds it and the input has it whole.
-#[derive(Drop)]
+#[derive(Clone, Copy)]
 pub enum Argument {
     Whole(usize),
     TooLong,

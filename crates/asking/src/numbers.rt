@@ -3,13 +3,13 @@ ghost use Rattle.asking.specs.Numbers.{Below};
 
 use std::io::Read;
 
-#[derive(Drop)]
+#[derive(Clone, Copy)]
 pub enum Byte {
     Is(u8),
     Ended,
 }
 
-#[derive(Drop)]
+#[derive(Clone, Copy)]
 pub enum Number {
     Is(u64),
     Ended,

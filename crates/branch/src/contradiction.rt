@@ -10,7 +10,7 @@ ghost use Rattle.branch.specs.Contradictions.{Alive, Settles, Settled, Clashed};
 use crate::{BOOKED, DEAD, MARKS};
 
 // The height of the log after a contradiction; or there is none.
-#[derive(Drop)]
+#[derive(Clone, Copy)]
 pub enum Clash {
     Done(usize),
     Nothing,

@@ -40,7 +40,7 @@ also r (no_room at) = no_room at
 also r (stuck b) = stuck b
 
 -- The records for the open branches, with `at` bytes written of `room`. Each record takes at least a byte, so a fuel of more
--- than the bytes left never runs out, and how much more does not matter (Theorems/Written `fuel_enough`).
+-- than the bytes left never runs out, and how much more does not matter (proofs/Theorems/Written `fuel_enough`).
 unfoldable pub write_from : Problem → Claim → ℕ → ℕ → ℕ → List Branch → Draft
 write_from I k zero room at [] = wrote []
 write_from I k zero room at (b ∷ bs) = no_room at

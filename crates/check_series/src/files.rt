@@ -21,7 +21,10 @@ fn fill(file: &mut impl Read, room: &mut [u8]) -> Loaded
     let mut all = 0;
     while all < room.len() {
         let Ok(n) = file.read(&mut room[all..]) else {
-            return Loaded::Unread;
+            if all == 0 {
+                return Loaded::Unread;
+            }
+            break;
         };
         if n == 0 {
             break;
