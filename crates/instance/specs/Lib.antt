@@ -1,5 +1,7 @@
 pub mod Limits
 pub mod Refusals
+pub mod Faults
+pub mod Weights
 pub mod Answers
 pub mod Clause
 pub mod Meaning
