@@ -2,7 +2,7 @@
 use Rattle.std.specs.Prelude.{ℕ, List, [], ◌∷◌}
 use Rattle.std.proofs.Props.{props}
 use Rattle.instance.specs.Clause.{Weight, hard, soft, Body, clause}
-use Rattle.instance.specs.Within.{Every, In, InBody, Weighty, Within}
+use Rattle.instance.specs.Within.{Every, In, InBody, Weighty}
 
 pub Every-prop : {A : Type 0} (P : A → Type 0) → ((x : A) → IsProp (P x)) → (xs : List A) → IsProp (Every P xs)
 Every-prop P h [] = hlevel props

@@ -1,6 +1,6 @@
 -- What a store holds by its numbers, and as an instance.
 use Rattle.std.specs.Prelude.{ℕ, Bool, true, false, List, ◌≡◌, refl, eqb, length}
-use Rattle.std.proofs.Common.{sym, ap, ◌∙◌, subst}
+use Rattle.std.proofs.Common.{sym, ap, subst}
 use Rattle.instance.specs.Clause.{Problem}
 use Rattle.instance.specs.Within.{Within}
 use Rattle.instance.specs.Store.{flag_of, clauses_in, problem_in, Laid, Holds, Stored, Given}
