@@ -1,13 +1,13 @@
 -- What a contradiction does in cells.
-use Rattle.std.specs.Prelude.{ℕ, ◌+◌, ◌-◌, min, false, List, ◌≡◌, get_or, set}
+use Rattle.std.specs.Prelude.{ℕ, ◌+◌, ◌-◌, min, false, List, ◌≡◌, get_or, set, Result, Ok, Err}
 use Rattle.std.proofs.Math.Option.{Option, some, none}
 use Rattle.instance.specs.Clause.{Clause}
 use Rattle.journal.specs.Undo.{Later}
 use Rattle.calculus.specs.Branch.{Branch}
 use Rattle.branch.specs.Cells.{booked_at}
 use Rattle.branch.specs.Works.{Works}
-use Rattle.branch.specs.declared.contradiction.Clash.{Clash}
-use Rattle.branch.specs.declared.contradiction.Clash.TheVariants.{Done, Nothing}
+use Rattle.instance.specs.declared.faults.Fault.{Fault}
+use Rattle.instance.specs.declared.faults.Fault.TheVariants.{NothingToContradict}
 use Rattle.branch.specs.declared.contradiction.Settlement.{Settlement}
 
 -- the cells show a branch that is not dead
@@ -30,8 +30,9 @@ pub record Settled (cells log : List ℕ) (top p q : ℕ) (s : Settlement) (cell
   pub later : Later cells log top cells' log' top'
 
 -- the answer, beside what the calculus says of the same contradiction
-abbrev pub Clashed : List Clause → ℕ → List ℕ → List ℕ → ℕ → List ℕ → List ℕ → Clash → Option Branch → Type 0
-Clashed cs d cells log top cells' log' (Done t) (some b) = Works cs cells' t d 0 b × Later cells log top cells' log' t
-Clashed cs d cells log top cells' log' (Done t) none = ⊥
-Clashed cs d cells log top cells' log' Nothing (some b) = ⊥
-Clashed cs d cells log top cells' log' Nothing none = (cells' ≡ cells) × (log' ≡ log)
+abbrev pub Clashed : List Clause → ℕ → List ℕ → List ℕ → ℕ → List ℕ → List ℕ → ℕ → Result Unit Fault → Option Branch → Type 0
+Clashed cs d cells log top cells' log' top' (Ok done) (some b) = Works cs cells' top' d 0 b × Later cells log top cells' log' top'
+Clashed cs d cells log top cells' log' top' (Ok done) none = ⊥
+Clashed cs d cells log top cells' log' top' (Err fault) (some b) = ⊥
+Clashed cs d cells log top cells' log' top' (Err fault) none =
+    (fault ≡ NothingToContradict) × (cells' ≡ cells) × (log' ≡ log) × (top' ≡ top)

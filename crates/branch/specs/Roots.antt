@@ -1,6 +1,6 @@
 -- The root's cells, clause by clause.
 use Rattle.std.specs.Prelude.{ℕ, ◌+◌, ◌*◌, ◌<◌, ◌≤◌, true, false, List, ◌≡◌, eqb, length, get_or, set}
-use Rattle.instance.specs.Clause.{Problem, total_of}
+use Rattle.instance.specs.Clause.{Weight, hard, soft, Problem, total_of}
 use Rattle.instance.specs.Store.{clauses_in, Stored}
 use Rattle.calculus.specs.Branch.{root}
 use Rattle.branch.specs.Shows.{Shows}
@@ -12,9 +12,10 @@ pub record Filled (cells : List ℕ) (from to v : ℕ) (cells' : List ℕ) : Typ
   pub below : (p : ℕ) → p < from → get_or cells' p 0 ≡ get_or cells p 0
   pub inside : (p : ℕ) → from ≤ p → p < to → get_or cells' p 0 ≡ v
 
--- a weight goes to the place `sum`; where it is 0, which is hard, the place `mark` is set
-unfoldable pub given : List ℕ → ℕ → ℕ → ℕ → List ℕ
-given cells mark sum w = elim (eqb w 0) [ true ↦ set cells mark 1 | false ↦ set cells sum (get_or cells sum 0 + w) ]
+-- a soft weight goes to the place `sum`; hard sets the place `mark`
+unfoldable pub given : List ℕ → ℕ → ℕ → Weight → List ℕ
+given cells mark sum hard = set cells mark 1
+given cells mark sum (soft w) = set cells sum (get_or cells sum 0 + w)
 
 -- what holds after the first c clauses
 pub record Rooted (store : List ℕ) (I : Problem) (c : ℕ) (cells : List ℕ) : Type 0 where

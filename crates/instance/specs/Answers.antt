@@ -1,6 +1,5 @@
 -- What each answer says in 01's numbers: the values that 01 names, in its order, or the refusal's number and place.
-use Rattle.std.specs.Prelude.{ℕ, List, [], ◌∷◌, Result}
-use Rattle.std.specs.Prelude.Result.{Ok, Err}
+use Rattle.std.specs.Prelude.{ℕ, List, [], ◌∷◌, Result, Ok, Err}
 use Rattle.instance.specs.declared.Instance.{Instance}
 use Rattle.instance.specs.declared.refusals.Stage.{Stage}
 use Rattle.instance.specs.declared.answers.Worth.{Worth}
@@ -51,6 +50,10 @@ surveyed (Err s) = Surveyed.Refused s
 abbrev pub valued : Result Worth Stage → Valued
 valued (Ok w) = Valued.Worth w.first_broken w.falsified
 valued (Err s) = Valued.Refused s
+
+abbrev pub shown_by : Claim → Result ℕ Stage → Checked
+shown_by k (Ok records) = Checked.Accepted k records
+shown_by k (Err s) = Checked.Refused s
 
 abbrev pub checked : Result (Claim × ℕ) Stage → Checked
 checked (Ok shown) = Checked.Accepted shown.0 shown.1
