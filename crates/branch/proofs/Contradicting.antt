@@ -1,5 +1,5 @@
 -- A contradiction: its stores, case by case, as the calculus has them.
-use Rattle.std.proofs.Common.{ℕ, zero, suc, ◌+◌, ◌*◌, ◌-◌, ◌<◌, ◌≤◌, min, Bool, true, false, ◌&&◌, List, ◌≡◌, refl, ap, sym, ◌∙◌, arith, lt-ltb, le-ltb, eqb, length, get_or, set, length-set, get_or-set_other}
+use Rattle.std.proofs.Common.{Ok, Err, ℕ, zero, suc, ◌+◌, ◌*◌, ◌-◌, ◌<◌, ◌≤◌, min, Bool, true, false, List, ◌≡◌, refl, ap, sym, ◌∙◌, arith, lt-ltb, le-ltb, eq-eqb, length, get_or, set, length-set, get_or-set_other}
 use Rattle.std.proofs.Math.Option.{Option, some, none}
 use Rattle.std.proofs.Math.Decide.{dec_lt, ℕ_discrete}
 use Rattle.std.proofs.Math.Seq.{set-get_or}
@@ -8,6 +8,7 @@ use Rattle.instance.specs.Memory.{cells_size, log_size}
 use Rattle.instance.specs.Clause.{Literal, pos, neg, same, variable_of, Clause}
 use Rattle.instance.specs.Within.{In}
 use Rattle.instance.specs.Store.{code_of, flag_of}
+use Rattle.instance.specs.Theorems.Held.{flag_read}
 use Rattle.journal.specs.Undo.{Put}
 use Rattle.journal.specs.Theorems.Stores.{later_put, later_join}
 use Rattle.calculus.specs.Branch.{Branch, set_weight, book, kill, spend, cancel_by, contradict_by, contradict}
@@ -15,7 +16,7 @@ use Rattle.branch.specs.Cells.{Cell, booked, weight, booked_at, dead_at, marks_a
 use Rattle.branch.specs.Shows.{Shows}
 use Rattle.branch.specs.Works.{sum, entries_of, extensions_of, weights_of, most_entries, Works}
 use Rattle.branch.specs.Contradictions.{Settles, Settled, settled_in, Clashed}
-use Rattle.branch.specs.declared.contradiction.Clash.TheVariants.{Done, Nothing}
+use Rattle.instance.specs.declared.faults.Fault.TheVariants.{NothingToContradict}
 use Rattle.branch.specs.declared.contradiction.Settlement.{Settlement}
 use Rattle.branch.proofs.Stores.{sum_part, sum_set}
 use Rattle.branch.proofs.Changes.{shows_weight, shows_book}
@@ -108,6 +109,9 @@ module _ (x : ℕ) (lo : 1 ≤ x) (hi : x ≤ most_variables) where
       go zero e = omega (arith, some_entries (neg x) (get_or cells (2 * x + 1) 0) (omega arith), sum_part entries_of cells (weight (neg x)) q_in)
       go (suc a) e = omega (arith, some_entries (pos x) (get_or cells (2 * x) 0) (omega arith), sum_part entries_of cells (weight (pos x)) p_in)
 
+flag_on : (t : Bool) → flag_of t ≡ 1 → t ≡ true
+flag_on t e = sym (flag_read t) ∙ eq-eqb (flag_of t) 1 e
+
 -- ---- the rules of the calculus, by their tests
 spend_some : (l : Literal) (b : Branch) → 0 < b.weight l → spend l b ≡ some (book (b.weight l) (set_weight l 0 b))
 unfolding spend
@@ -159,29 +163,18 @@ module _ (x : ℕ) (lo : 1 ≤ x) (hi : x ≤ most_variables) (cs : List Clause)
   unfolding code_of
   q_mark h = mark_is cs cells b h (neg x) (q_in x lo hi)
 
-  abbrev both_hard : Bool
-  both_hard = eqb (get_or cells (marks_at + 2 * x) 0) 1 && eqb (get_or cells (marks_at + (2 * x + 1)) 0) 1
+  both_kill : Shows cs cells b → get_or cells (marks_at + 2 * x) 0 ≡ 1 → get_or cells (marks_at + (2 * x + 1)) 0 ≡ 1 → contradict x b ≡ some (kill b)
+  unfolding contradict contradict_by
+  both_kill h p q = rw (flag_on (b.marked (pos x)) (sym (p_mark h) ∙ p), flag_on (b.marked (neg x)) (sym (q_mark h) ∙ q)) refl
 
-  both_kill : Shows cs cells b → both_hard ≡ true → contradict x b ≡ some (kill b)
-  unfolding contradict contradict_by flag_of
-  both_kill h = rw (p_mark h, q_mark h) (go (b.marked (pos x)) (b.marked (neg x)))
-    where
-      never : (o : Option Branch) → ◌≡◌ {A = Bool} false true → o ≡ some (kill b)
-      never o e = cc
-
-      go : (t u : Bool) → (eqb (flag_of t) 1 && eqb (flag_of u) 1) ≡ true → contradict_by t u x b ≡ some (kill b)
-      go true true e = refl
-      go true false e = never _ e
-      go false true e = never _ e
-      go false false e = never _ e
-
-  pub clash_dead : (log cells' log' : List ℕ) (top d t : ℕ) → Works cs cells top d 0 b → b.dead ≡ false → both_hard ≡ true
-      → Put cells log top dead_at 1 cells' log' t → log_size ≤ length log → Clashed cs d cells log top cells' log' (Done t) (contradict x b)
+  pub clash_dead : (log cells' log' : List ℕ) (top d t : ℕ) → Works cs cells top d 0 b → b.dead ≡ false → get_or cells (marks_at + 2 * x) 0 ≡ 1
+      → get_or cells (marks_at + (2 * x + 1)) 0 ≡ 1 → Put cells log top dead_at 1 cells' log' t → log_size ≤ length log
+      → Clashed cs d cells log top cells' log' t (Ok tt) (contradict x b)
   unfolding at
-  clash_dead log cells' log' top d t h alive both p room =
+  clash_dead log cells' log' top d t h alive p q put room =
       let size = h.shows.size in
-      rw (both_kill h.shows both)
-      (rw (p.stored, p.height) (works_kill cs cells b top d h alive), later_put p (omega arith) (omega (arith, kill_room cs cells b top d h alive)))
+      rw (both_kill h.shows p q)
+      (rw (put.stored, put.height) (works_kill cs cells b top d h alive), later_put put (omega arith) (omega (arith, kill_room cs cells b top d h alive)))
 
   -- a weight that is stored anew changes nothing
   kept : (cells' : List ℕ) (b' : Branch) → Shows cs cells' b' → (l : Literal) → In most_variables l → (v : ℕ) → v ≡ b'.weight l → set cells' (code_of l) v ≡ cells'
@@ -277,35 +270,35 @@ module _ (x : ℕ) (lo : 1 ≤ x) (hi : x ≤ most_variables) (cs : List Clause)
             )
         go (no n) = rw (cancel_none x (min (b.weight (pos x)) (b.weight (neg x))) b (omega arith)) (omega (arith, p_is, q_is))
 
-    meets : both_hard ≡ false
+    meets : (get_or cells (marks_at + 2 * x) 0 ≡ 1 → get_or cells (marks_at + (2 * x + 1)) 0 ≡ 1 → ⊥)
         → Settles (get_or cells (2 * x) 0) (get_or cells (2 * x + 1) 0) (get_or cells (marks_at + 2 * x) 0) (get_or cells (marks_at + (2 * x + 1)) 0) s
         → Meets (contradict x b)
     unfolding contradict contradict_by flag_of
     meets = rw (p_mark h.shows, q_mark h.shows) (go (b.marked (pos x)) (b.marked (neg x)))
       where
-        go : (t u : Bool) → (eqb (flag_of t) 1 && eqb (flag_of u) 1) ≡ false
+        go : (t u : Bool) → (flag_of t ≡ 1 → flag_of u ≡ 1 → ⊥)
             → Settles (get_or cells (2 * x) 0) (get_or cells (2 * x + 1) 0) (flag_of t) (flag_of u) s → Meets (contradict_by t u x b)
-        go true true e st = absurd (let z : ◌≡◌ {A = ℕ} 0 1 = cc in omega arith)
-        go true false e st = let (eb, ef, es) = st.first_hard refl in meets_first eb ef es
-        go false true e st = let (eb, ef, es) = st.second_hard (λ z. omega arith) refl in meets_second eb ef es
-        go false false e st =
+        go true true n st = absurd (n refl refl)
+        go true false n st = let (eb, ef, es) = st.first_hard refl in meets_first eb ef es
+        go false true n st = let (eb, ef, es) = st.second_hard (λ z. omega arith) refl in meets_second eb ef es
+        go false false n st =
             let (eb, ef, es) = st.both_soft (λ z. omega arith) (λ z. omega arith) in
             meets_both eb ef es
 
     -- ---- the answers
-    module _ (log : List ℕ) (soft : both_hard ≡ false)
+    module _ (log : List ℕ) (soft : get_or cells (marks_at + 2 * x) 0 ≡ 1 → get_or cells (marks_at + (2 * x + 1)) 0 ≡ 1 → ⊥)
         (st : Settles (get_or cells (2 * x) 0) (get_or cells (2 * x + 1) 0) (get_or cells (marks_at + 2 * x) 0) (get_or cells (marks_at + (2 * x + 1)) 0) s) where
-      pub clash_nothing : s.booked ≡ 0 → Clashed cs d cells log top cells log Nothing (contradict x b)
+      pub clash_nothing : s.booked ≡ 0 → Clashed cs d cells log top cells log top (Err NothingToContradict) (contradict x b)
       clash_nothing z = go (contradict x b) (meets soft st)
         where
-          go : (o : Option Branch) → Meets o → Clashed cs d cells log top cells log Nothing o
-          go none m = (refl, refl)
+          go : (o : Option Branch) → Meets o → Clashed cs d cells log top cells log top (Err NothingToContradict) o
+          go none m = (refl, refl, refl, refl)
           go (some b') m = m.0 z
 
       pub clash_settled : (cells' log' : List ℕ) (t : ℕ) → (s.booked ≡ 0 → ⊥) → Settled cells log top (2 * x) (2 * x + 1) s cells' log' t
-          → Clashed cs d cells log top cells' log' (Done t) (contradict x b)
+          → Clashed cs d cells log top cells' log' t (Ok tt) (contradict x b)
       clash_settled cells' log' t n se = go (contradict x b) (meets soft st)
         where
-          go : (o : Option Branch) → Meets o → Clashed cs d cells log top cells' log' (Done t) o
+          go : (o : Option Branch) → Meets o → Clashed cs d cells log top cells' log' t (Ok tt) o
           go none m = n m
           go (some b') m = (rw (se.stored, se.height) m.1, se.later)
