@@ -1,5 +1,5 @@
 -- What the cells say of the branch that they show.
-use Rattle.std.proofs.Common.{ℕ, ◌+◌, ◌<◌, Bool, true, false, not, List, ◌≡◌, refl, ap, sym, ◌∙◌, eq-eqb, ne_eqb, eqb, leb, get_or}
+use Rattle.std.proofs.Common.{ℕ, ◌+◌, ◌<◌, Bool, true, false, not, List, ◌≡◌, refl, ap, sym, ◌∙◌, eqb, leb, get_or}
 use Rattle.instance.specs.Limits.{most_variables, most_clauses}
 use Rattle.instance.specs.Clause.{Literal, Clause}
 use Rattle.instance.specs.Within.{In}
@@ -17,7 +17,7 @@ unfolding flag_of
 clear_flag true = refl
 clear_flag false = refl
 
-module _ (cs : List Clause) (cells : List ℕ) (b : Branch) (h : Shows cs cells b) where
+module _ {cs : List Clause} {cells : List ℕ} {b : Branch} (h : Shows cs cells b) where
   pub booked_is : get_or cells booked_at 0 ≡ b.booked
   unfolding at has
   booked_is = h.holds booked tt

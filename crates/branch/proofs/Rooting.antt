@@ -11,7 +11,7 @@ use Rattle.instance.specs.Clause.{Literal, Weight, hard, soft, Body, clause, Cla
 use Rattle.instance.specs.Store.{weights_at, literal_of, code_of, weight_of, flag_of, codes_in, literals_in, clause_in, clauses_in, Holds, Stored}
 use Rattle.instance.specs.Theorems.Choices.{never}
 use Rattle.instance.specs.Theorems.Clauses.{total_snoc}
-use Rattle.instance.specs.Theorems.Codes.{code_literal, code_low, code_high}
+use Rattle.instance.specs.Theorems.Codes.{code_literal, code_high}
 use Rattle.instance.specs.Theorems.Store.{clauses_length}
 use Rattle.instance.specs.declared.Instance.{Instance}
 use Rattle.calculus.specs.Branch.{Branch, blank, kill, keep, unit_of, nothing, gain, several, numbered, enter, root_from, root, spent, disjuncts, unless}
@@ -24,7 +24,7 @@ use Rattle.branch.specs.Theorems.Stored.{clause_in_lem, soft_at_lem}
 use Rattle.branch.proofs.Stores.{sum_part, sum_set, sum_none}
 use Rattle.branch.proofs.Changes.{shows_weight, shows_mark, shows_book, shows_kill, shows_keep_shut, shows_keep_open}
 use Rattle.branch.proofs.Readings.{booked_is, weight_is}
-use Rattle.branch.proofs.Rules.{three}
+use Rattle.branch.proofs.Rules.{weight_entries}
 use Rattle.branch.proofs.Extending.{coded_in}
 
 -- ---- the calculus' root, one clause more
@@ -87,18 +87,18 @@ more_open v ls e = rw (unspent v, disjuncts, e) (go (tautology ls))
     go false = refl
 
 -- ---- what a clause gives at once
-module _ (cs : List Clause) (cells : List ℕ) (b : Branch) (h : Shows cs cells b) where
+module _ {cs : List Clause} {cells : List ℕ} {b : Branch} (h : Shows cs cells b) where
   shows_nothing : (w : Weight) → Shows cs (given cells dead_at booked_at w) (nothing w b)
   unfolding given nothing at
-  shows_nothing hard = shows_kill cs cells b h
-  shows_nothing (soft v) = rw (booked_is cs cells b h) (shows_book cs cells b h v)
+  shows_nothing hard = shows_kill h
+  shows_nothing (soft v) = rw (booked_is h) (shows_book h v)
 
   shows_unit : (w : Weight) (c : ℕ) → Coded c → Shows cs (given cells (marks_at + c) c w) (unit_of w (literal_of c) b)
   unfolding given unit_of at
-  shows_unit hard c r = rw (code_literal c) at (shows_mark cs cells b h (literal_of c) (coded_in c r))
+  shows_unit hard c r = rw (code_literal c) at (shows_mark h (literal_of c) (coded_in c r))
   shows_unit (soft v) c r =
-      let held = rw (code_literal c) at (weight_is cs cells b h (literal_of c) (coded_in c r)) in
-      rw held (rw (code_literal c) at (shows_weight cs cells b h (literal_of c) (coded_in c r) (b.weight (literal_of c) + v)))
+      let l : Literal = literal_of c in
+      rw (rw (code_literal c) at (weight_is h l (coded_in c r))) (rw (code_literal c) at (shows_weight h l (coded_in c r) (b.weight l + v)))
 
 -- ---- the sums
 -- what a clause of weight v adds at most
@@ -128,7 +128,7 @@ module _ (cs : List Clause) (cells : List ℕ) (size : cells_size ≤ length cel
   adds_unit (soft v) c r =
       let u : ℕ = held cells (weight (literal_of c)) + v in
       rw (code_literal c) at
-      (adds_set (weight (literal_of c)) (coded_in c r) u v (omega (arith, three (literal_of c) u)) (omega arith) (omega arith))
+      (adds_set (weight (literal_of c)) (coded_in c r) u v (omega (arith, weight_entries (literal_of c) u)) (omega arith) (omega arith))
 
   adds_shut : (v : ℕ) → Adds cs cells v cells
   adds_shut v = record { room = omega arith; deep = omega arith; light = omega arith }
@@ -182,13 +182,13 @@ module _ (store : List ℕ) (counts : Instance) (h : Holds store counts) (k : �
       → Shows (cs ++ (record { weight = w; body = p } ∷ [])) cells' (keep (soft 0) p b)
   kept_spent p cells' b s =
       let c : Clause = record { weight = w; body = p } in
-      shows_keep_shut cs cells' b s c (spent_of c) (spent_left c) few (spent_shut c)
+      shows_keep_shut s c (spent_of c) (spent_left c) few (spent_shut c)
 
   pub next_none : codes_in store k ≡ [] → next (given cells dead_at booked_at w)
   unfolding clause_in
   next_none e =
       entered _
-      (rw (e, enter_none w (root cs)) (kept_spent (clause []) _ _ (shows_nothing cs cells (root cs) r.shows w)))
+      (rw (e, enter_none w (root cs)) (kept_spent (clause []) _ _ (shows_nothing r.shows w)))
       (adds_nothing all cells size w)
 
   -- no sum overflows
@@ -224,7 +224,7 @@ module _ (store : List ℕ) (counts : Instance) (h : Holds store counts) (k : �
     next_one =
         entered _
         (rw (e, enter_one w (literal_of code) (root cs))
-        (kept_spent (clause (literal_of code ∷ [])) _ _ (shows_unit cs cells (root cs) r.shows w code code_coded)))
+        (kept_spent (clause (literal_of code ∷ [])) _ _ (shows_unit r.shows w code code_coded)))
         (adds_unit all cells size w code code_coded)
 
   -- two literals or more
@@ -243,7 +243,7 @@ module _ (store : List ℕ) (counts : Instance) (h : Holds store counts) (k : �
     next_shut e =
         entered cells
         (rw (enter_more w (literals_in store k) (root cs) more)
-        (shows_keep_shut cs cells (root cs) r.shows whole whole (whole_left whole) few (opens true e)))
+        (shows_keep_shut r.shows whole whole (whole_left whole) few (opens true e)))
         (adds_shut all cells size (soft_of w))
 
     pub next_open : tautology (literals_in store k) ≡ false → next (set cells (shuts_at + k) 0)
@@ -252,7 +252,7 @@ module _ (store : List ℕ) (counts : Instance) (h : Holds store counts) (k : �
         entered (set cells (shuts_at + k) 0)
         (rw (enter_more w (literals_in store k) (root cs) more)
         (rw (clauses_length store k) at
-        (shows_keep_open cs cells (root cs) r.shows whole whole (whole_left whole) few (opens false e))))
+        (shows_keep_open r.shows whole whole (whole_left whole) few (opens false e))))
         (adds_open all cells size k (soft_of w) (omega (arith, h.laid.few)) (soft_at_lem all k (clause_in store k) (clause_in_lem store counts.clauses k lt)))
 
 -- ---- before the first clause
@@ -291,7 +291,7 @@ module _ (cells : List ℕ) (blank_cells : Blank cells) where
 
   no_extensions : sum extensions_of cells ≡ 0
   unfolding extensions_of has blank flag_of open_in
-  no_extensions = sum_none extensions_of [] cells blank shows_blank none
+  no_extensions = sum_none extensions_of shows_blank none
     where
       none : (c : Cell) → extensions_of c (has blank c) ≡ 0
       none booked = refl
@@ -302,7 +302,7 @@ module _ (cells : List ℕ) (blank_cells : Blank cells) where
 
   no_weight : (cs : List Clause) → sum (weights_of cs) cells ≡ 0
   unfolding weights_of has blank flag_of open_in
-  no_weight cs = sum_none (weights_of cs) [] cells blank shows_blank none
+  no_weight cs = sum_none (weights_of cs) shows_blank none
     where
       none : (c : Cell) → weights_of cs c (has blank c) ≡ 0
       none booked = refl
@@ -316,7 +316,7 @@ module _ (cells : List ℕ) (blank_cells : Blank cells) where
   unfolding entries_of has blank flag_of open_in kill
   one_entry =
       let h = shows_blank in
-      let z = sum_none entries_of [] (set cells (at dead) 1) (kill blank) (shows_kill [] cells blank h) none in
+      let z = sum_none entries_of (shows_kill h) none in
       omega (arith, z, rw (h.holds dead tt) at (sum_set cells h.size dead tt 1 entries_of))
     where
       none : (c : Cell) → entries_of c (has (kill blank) c) ≡ 0

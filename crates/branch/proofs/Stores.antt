@@ -53,9 +53,9 @@ module _ (cells : List ℕ) (size : cells_size ≤ length cells) (c : Cell) (rea
   sum_set f = rw (cell_at_lem c real) at (sum_store f cells (at c) v cells_size (at_low c real) (omega (arith, at_low c real)))
 
 -- the branch after a change in one cell
-pub shows_set : (cs cs' : List Clause) (cells : List ℕ) (b b' : Branch) (c : Cell) (v : ℕ) → Shows cs cells b → Real c → has b' c ≡ v
+pub shows_set : {cs cs' : List Clause} {cells : List ℕ} {b : Branch} → Shows cs cells b → (b' : Branch) (c : Cell) (v : ℕ) → Real c → has b' c ≡ v
     → ((d : Cell) → (d ≡ c → ⊥) → has b' d ≡ has b d) → Remain cs' b'.rules → Shows cs' (set cells (at c) v) b'
-shows_set cs cs' cells b b' c v h real here there rules = record {
+shows_set {cells = cells} {b = b} h b' c v real here there rules = record {
   size = rw length-set h.size;
   holds = λ d r. go d r (ℕ_discrete (at d) (at c));
   rules = rules;
@@ -73,9 +73,9 @@ unfolding sum_to
 sum_none_below f cells zero h = refl
 sum_none_below f cells (suc n) h = omega (arith, sum_none_below f cells n (λ p lt. h p (omega arith)), h n (omega arith))
 
-pub sum_none : (f : Cell → ℕ → ℕ) (cs : List Clause) (cells : List ℕ) (b : Branch) → Shows cs cells b → ((c : Cell) → f c (has b c) ≡ 0) → sum f cells ≡ 0
+pub sum_none : (f : Cell → ℕ → ℕ) {cs : List Clause} {cells : List ℕ} {b : Branch} → Shows cs cells b → ((c : Cell) → f c (has b c) ≡ 0) → sum f cells ≡ 0
 unfolding sum
-sum_none f cs cells b h none = sum_none_below f cells cells_size by_cell
+sum_none f {cells = cells} {b = b} h none = sum_none_below f cells cells_size by_cell
   where
     by_cell : (p : ℕ) → p < cells_size → f (cell_at p) (get_or cells p 0) ≡ 0
     by_cell p lt =
