@@ -1,14 +1,11 @@
 -- What the cells say of the branch that they show.
-use Rattle.std.proofs.Common.{ℕ, ◌+◌, ◌<◌, Bool, true, false, not, List, ◌≡◌, refl, ap, sym, ◌∙◌, eqb, leb, get_or}
+use Rattle.std.proofs.Common.{ℕ, ◌+◌, ◌<◌, Bool, true, false, not, List, ◌≡◌, refl, ap, ◌∙◌, eqb, get_or}
 use Rattle.instance.specs.Limits.{most_variables, most_clauses}
 use Rattle.instance.specs.Clause.{Literal, Clause}
 use Rattle.instance.specs.Within.{In}
 use Rattle.instance.specs.Store.{code_of, flag_of}
 use Rattle.instance.specs.Theorems.Held.{flag_read}
-use Rattle.instance.specs.declared.answers.Claim.{Claim}
-use Rattle.instance.specs.declared.answers.Claim.TheVariants.{Minimum, Infeasible}
 use Rattle.calculus.specs.Branch.{Branch}
-use Rattle.calculus.specs.Derivation.{closable}
 use Rattle.branch.specs.Cells.{booked, dead, weight, marked, shut, booked_at, dead_at, marks_at, shuts_at, at}
 use Rattle.branch.specs.Shows.{open_in, has, Shows}
 
@@ -30,31 +27,10 @@ module _ {cs : List Clause} {cells : List ℕ} {b : Branch} (h : Shows cs cells 
   unfolding at has
   mark_is l i = h.holds (marked l) i
 
-  pub shut_is : (k : ℕ) → k < most_clauses → get_or cells (shuts_at + k) 0 ≡ flag_of (not (open_in b.rules k))
-  unfolding at has
-  shut_is k lt = h.holds (shut k) lt
-
-  pub dead_is : get_or cells dead_at 0 ≡ flag_of b.dead
-  unfolding at has
-  dead_is = h.holds dead tt
-
   pub dead_test : eqb (get_or cells dead_at 0) 1 ≡ b.dead
-  dead_test = ap (λ n. eqb n 1) dead_is ∙ flag_read b.dead
+  unfolding at has
+  dead_test = ap (λ n. eqb n 1) (h.holds dead tt) ∙ flag_read b.dead
 
   pub open_test : (k : ℕ) → k < most_clauses → eqb (get_or cells (shuts_at + k) 0) 0 ≡ open_in b.rules k
-  open_test k lt = ap (λ n. eqb n 0) (shut_is k lt) ∙ clear_flag (open_in b.rules k)
-
-  -- ---- closing, by the branch's death
-  pub close_minimum : (m : ℕ) → b.dead ≡ false → leb m (get_or cells booked_at 0) ≡ closable (Minimum m) b
-  unfolding closable
-  close_minimum m n = rw (booked_is, n)
-
-module _ (b : Branch) where
-  pub close_dead : (claim : Claim) → b.dead ≡ true → true ≡ closable claim b
-  unfolding closable
-  close_dead (Minimum m) e = rw e
-  close_dead Infeasible e = sym e
-
-  pub close_infeasible : b.dead ≡ false → false ≡ closable Infeasible b
-  unfolding closable
-  close_infeasible e = sym e
+  unfolding at has
+  open_test k lt = ap (λ n. eqb n 0) (h.holds (shut k) lt) ∙ clear_flag (open_in b.rules k)
