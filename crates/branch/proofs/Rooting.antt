@@ -1,10 +1,9 @@
 -- The root, one clause after another.
-use Rattle.std.proofs.Common.{ℕ, zero, suc, ◌+◌, ◌-◌, ◌<◌, ◌≤◌, Bool, true, false, not, ◌&&◌, List, [], ◌∷◌, ◌++◌, map, ◌≡◌, refl, ap, sym, ◌∙◌, arith, length, get_or, set, replicate, length-append}
+use Rattle.std.proofs.Common.{ℕ, zero, suc, ◌+◌, ◌-◌, ◌<◌, ◌≤◌, Bool, true, false, not, ◌&&◌, List, [], ◌∷◌, ◌++◌, map, ◌≡◌, refl, ap, sym, ◌∙◌, arith, length, get_or, set, take, replicate, length-append}
 use Rattle.std.proofs.Math.ListN.{get_or-append}
 use Rattle.std.proofs.Math.Option.{Option, some, none}
 use Rattle.std.proofs.lemmas.List.{take_at, length-replicate, get_or-append_right, get_or-replicate}
 use Rattle.std.proofs.Math.Decide.{ℕ_discrete}
-use borrow.Rule.Slice.PartMut.{put_mid, post_of}
 use Rattle.instance.specs.Limits.{most_variables, most_clauses, most_weight}
 use Rattle.instance.specs.Memory.{cells_size}
 use Rattle.instance.specs.Clause.{Literal, Weight, hard, soft, Body, clause, Clause, Problem, tautology, soft_of, total_of}
@@ -148,7 +147,7 @@ total_most store k (suc n) le = go (ℕ_discrete k (suc n)) (total_most store k 
     go (no d) ih = omega (arith, ih (omega (arith, d)), total_snoc (clauses_in store n) (clause_in store n))
 
 -- ---- one clause more
-module _ (store : List ℕ) (counts : Instance) (h : Holds store counts) (k : ℕ) (cells : List ℕ) (r : Rooted store counts.clauses k cells) (lt : k < counts.clauses) where
+module _ {store : List ℕ} {counts : Instance} (h : Holds store counts) {k : ℕ} {cells : List ℕ} (r : Rooted store counts.clauses k cells) (lt : k < counts.clauses) where
   abbrev w : Weight
   w = weight_of (get_or store (weights_at + k) 0)
 
@@ -209,7 +208,7 @@ module _ (store : List ℕ) (counts : Instance) (h : Holds store counts) (k : �
   small_booked = small booked tt refl
 
   -- one literal
-  module _ (code : ℕ) (e : codes_in store k ≡ code ∷ []) where
+  module _ {code : ℕ} (e : codes_in store k ≡ code ∷ []) where
     pub code_coded : Coded code
     code_coded =
         let (two, most) = (rw e at (h.laid.codes k lt)).0 in
@@ -262,12 +261,11 @@ pub record Blank (cells : List ℕ) : Type 0 where
   pub high : (p : ℕ) → shuts_at ≤ p → p < cells_size → get_or cells p 0 ≡ 1
 
 -- after a fill below the clauses' cells, and one of these
-pub blank_filled : (low high others : List ℕ) (n m : ℕ) → low ≡ replicate n 0 → high ≡ replicate m 1 → n ≡ shuts_at → m ≡ most_clauses
-    → Blank (put_mid shuts_at most_clauses (low ++ others) high)
-blank_filled low high others n m l h e f =
+pub blank_filled : (low high others rest : List ℕ) (n m : ℕ) → low ≡ replicate n 0 → high ≡ replicate m 1 → n ≡ shuts_at → m ≡ most_clauses
+    → Blank (take shuts_at (low ++ others) ++ (high ++ rest))
+blank_filled low high others rest n m l h e f =
     let size_low : length low ≡ shuts_at = rw l (length-replicate n 0 ∙ e) in
     let size_high : length high ≡ most_clauses = rw h (length-replicate m 1 ∙ f) in
-    let rest : List ℕ = post_of shuts_at most_clauses (low ++ others) in
     rw (take_at low others shuts_at size_low) (record {
       size = simp length-append (omega arith);
       low = λ p lt. get_or-append low (high ++ rest) 0 p (omega arith) ∙ rw l (get_or-replicate n p 0 0 (omega arith));
@@ -277,54 +275,36 @@ blank_filled low high others n m l h e f =
           ∙ rw h (get_or-replicate m (p - shuts_at) 1 0 (omega arith));
     })
 
-module _ (cells : List ℕ) (blank_cells : Blank cells) where
+module _ {cells : List ℕ} (start : Blank cells) where
   shows_blank : Shows [] cells blank
   unfolding at has blank flag_of open_in
-  shows_blank = record { size = blank_cells.size; holds = holds; rules = tt }
+  shows_blank = record { size = start.size; holds = holds; rules = tt }
     where
       holds : (c : Cell) → Real c → held cells c ≡ has blank c
-      holds booked r = blank_cells.low booked_at (omega arith)
-      holds dead r = blank_cells.low dead_at (omega arith)
-      holds (weight l) r = blank_cells.low (code_of l) (omega (arith, code_high most_variables l r))
-      holds (marked l) r = blank_cells.low (marks_at + code_of l) (omega (arith, code_high most_variables l r))
-      holds (shut k) r = blank_cells.high (shuts_at + k) (omega arith) (omega arith)
+      holds booked r = start.low booked_at (omega arith)
+      holds dead r = start.low dead_at (omega arith)
+      holds (weight l) r = start.low (code_of l) (omega (arith, code_high most_variables l r))
+      holds (marked l) r = start.low (marks_at + code_of l) (omega (arith, code_high most_variables l r))
+      holds (shut k) r = start.high (shuts_at + k) (omega arith) (omega arith)
 
   no_extensions : sum extensions_of cells ≡ 0
   unfolding extensions_of has blank flag_of open_in
-  no_extensions = sum_none extensions_of shows_blank none
-    where
-      none : (c : Cell) → extensions_of c (has blank c) ≡ 0
-      none booked = refl
-      none dead = refl
-      none (weight l) = refl
-      none (marked l) = refl
-      none (shut k) = refl
+  no_extensions = sum_none extensions_of shows_blank
+      (λ c. elim c as (λ k. extensions_of k (has blank k) ≡ 0) [ booked ↦ refl | dead ↦ refl | weight l ↦ refl | marked l ↦ refl | shut k ↦ refl ])
 
-  no_weight : (cs : List Clause) → sum (weights_of cs) cells ≡ 0
+  no_weight : (rs : List Clause) → sum (weights_of rs) cells ≡ 0
   unfolding weights_of has blank flag_of open_in
-  no_weight cs = sum_none (weights_of cs) shows_blank none
-    where
-      none : (c : Cell) → weights_of cs c (has blank c) ≡ 0
-      none booked = refl
-      none dead = refl
-      none (weight l) = refl
-      none (marked l) = refl
-      none (shut k) = refl
+  no_weight rs = sum_none (weights_of rs) shows_blank
+      (λ c. elim c as (λ k. weights_of rs k (has blank k) ≡ 0) [ booked ↦ refl | dead ↦ refl | weight l ↦ refl | marked l ↦ refl | shut k ↦ refl ])
 
   -- only the branch's death is to come
   one_entry : sum entries_of cells ≡ 1
   unfolding entries_of has blank flag_of open_in kill
   one_entry =
       let h = shows_blank in
-      let z = sum_none entries_of (shows_kill h) none in
+      let z = sum_none entries_of (shows_kill h)
+      (λ c. elim c as (λ k. entries_of k (has (kill blank) k) ≡ 0) [ booked ↦ refl | dead ↦ refl | weight l ↦ refl | marked l ↦ refl | shut k ↦ refl ]) in
       omega (arith, z, rw (h.holds dead tt) at (sum_set cells h.size dead tt 1 entries_of))
-    where
-      none : (c : Cell) → entries_of c (has (kill blank) c) ≡ 0
-      none booked = refl
-      none dead = refl
-      none (weight l) = refl
-      none (marked l) = refl
-      none (shut k) = refl
 
   pub rooted_none : (store : List ℕ) (n : ℕ) → Rooted store n 0 cells
   unfolding clauses_in root root_from total_of
@@ -336,9 +316,9 @@ module _ (cells : List ℕ) (blank_cells : Blank cells) where
   }
 
 -- ---- after the last
-pub rooted_all : (store : List ℕ) (counts : Instance) → Holds store counts → (k : ℕ) (cells : List ℕ) → Rooted store counts.clauses k cells → k ≡ counts.clauses
+pub rooted_all : {store : List ℕ} {counts : Instance} → Holds store counts → {k : ℕ} {cells : List ℕ} → Rooted store counts.clauses k cells → k ≡ counts.clauses
     → (I : Problem) → Stored store I → counts.clauses ≡ length I.clauses → Works I.clauses cells 0 0 0 (root I.clauses)
-rooted_all store counts h k cells r last I st e =
+rooted_all {store} {counts} h r last I st e =
     let all : clauses_in store counts.clauses ≡ I.clauses = rw e st.clauses in
     rw (← all) (record {
       shows = rw last at r.shows;
