@@ -41,7 +41,7 @@ settled {cells} {p = p} {s = s} a b c size lp lq room =
       later = later_join (later_join la lb) lc;
     }
 
--- A settlement makes no weight, and leaves one of the two at 0.
+-- A settlement makes no weight, and what it books spends one of the two.
 pub frees : {a b p q : ℕ} {s : Settlement} → Settles a b p q s
     → (s.booked + s.first + s.second ≤ a + b) × (0 < s.booked → min s.first 1 + min s.second 1 + 1 ≤ min a 1 + min b 1)
 frees {a} {b} {p} {q} {s} st = go (ℕ_discrete p 1) (ℕ_discrete q 1)

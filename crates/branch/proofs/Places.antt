@@ -52,9 +52,6 @@ pub at_cell : (p : ℕ) → p < cells_size → (at (cell_at p) ≡ p) × Real (c
 unfolding at
 at_cell p lt = go (ℕ_discrete p booked_at) (ℕ_discrete p dead_at) (dec_lt p (marks_at + 2)) (dec_lt p shuts_at)
   where
-    Own : Cell → Type 0
-    Own c = (at c ≡ p) × Real c
-
     go : Dec (p ≡ booked_at) → Dec (p ≡ dead_at) → Dec (p < marks_at + 2) → Dec (p < shuts_at) → (at (cell_at p) ≡ p) × Real (cell_at p)
     go (yes e) d w m = rw e (unfold cell_at in (refl, tt))
     go (no n) (yes e) w m = rw e (unfold cell_at in (refl, tt))

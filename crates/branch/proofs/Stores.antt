@@ -42,10 +42,10 @@ sum_part f cells c real = rw (cell_at_lem c real) at (part_below f cells (at c) 
 
 -- ---- a store into a cell
 module _ (cells : List ℕ) (size : cells_size ≤ length cells) (c : Cell) (real : Real c) (v : ℕ) where
-  pub held_same : held (set cells (at c) v) c ≡ v
+  held_same : held (set cells (at c) v) c ≡ v
   held_same = get_or-set_same cells (at c) v 0 (omega (arith, at_low c real))
 
-  pub held_other : (d : Cell) → Real d → (d ≡ c → ⊥) → held (set cells (at c) v) d ≡ held cells d
+  held_other : (d : Cell) → Real d → (d ≡ c → ⊥) → held (set cells (at c) v) d ≡ held cells d
   held_other d r n = get_or-set_other cells (at c) (at d) v 0 (λ e. n (at_own d c r real e))
 
   pub sum_set : (f : Cell → ℕ → ℕ) → sum f (set cells (at c) v) + f c (held cells c) ≡ sum f cells + f c v
