@@ -9,6 +9,7 @@ use crate::{BOOKED, Branch, DEAD, SHUTS};
 use instance::Claim;
 
 impl Branch<'_> {
+    #[tactic(auto, using(crate::proofs::Readings::dead_test))]
     pub fn is_dead(&self) -> bool
         ensures { (cs : List Clause) (b : calculus.Branch) → Shows cs self.now.journal.cells.now b → result ≡ b.dead }
     {
@@ -16,6 +17,7 @@ impl Branch<'_> {
     }
 
     // Whether the clause of number k + 1 can be extended.
+    #[tactic(auto, using(crate::proofs::Readings::open_test))]
     pub fn can_extend(&self, k: usize) -> bool
         requires { k < most_clauses }
         ensures { (cs : List Clause) (b : calculus.Branch) → Shows cs self.now.journal.cells.now b → result ≡ open_in b.rules k }
@@ -24,6 +26,7 @@ impl Branch<'_> {
     }
 
     // Whether the branch may be closed.
+    #[tactic(auto, using(crate::proofs::Readings::booked_is), unfolding(calculus::specs::Derivation::closable))]
     pub fn can_close(&self, claim: Claim) -> bool
         ensures { (cs : List Clause) (b : calculus.Branch) → Shows cs self.now.journal.cells.now b → result ≡ closable claim b }
     {

@@ -5,13 +5,14 @@ ghost use Rattle.instance.specs.Weights.{meant};
 ghost use Rattle.instance.specs.Store.{Stored};
 ghost use Rattle.calculus.specs.Branch as calculus;
 ghost use Rattle.branch.specs.Works.{Works};
-ghost use Rattle.branch.specs.Roots.{given, Rooting};
+ghost use Rattle.branch.specs.Roots.{given, Rooted};
 
 use crate::{BOOKED, Branch, DEAD, MARKS, SHUTS};
 use instance::{CELLS, Held, Weight};
 use journal::Journal;
 
 // A soft weight goes to one cell; a hard clause sets another.
+#[tactic(auto, unfolding(crate::specs::Roots::given, instance::specs::Clause::soft_of))]
 fn give(cells: &mut [u64], mark: usize, sum: usize, weight: Weight)
     requires { (mark < length cells.old) × (sum < length cells.old) × (get_or cells.old sum 0 + soft_of (meant weight) < 2 ^ 64) }
     ensures { cells.new ≡ given cells.old mark sum (meant weight) }
@@ -24,9 +25,8 @@ fn give(cells: &mut [u64], mark: usize, sum: usize, weight: Weight)
 
 // The clause of number k + 1 at the root.
 fn enter(held: &Held, cells: &mut [u64], k: usize)
-    requires { (I : Problem) × Rooting held.now.store.now I k cells.old × (k < length I.clauses) × (k < held.now.counts.clauses) }
-    ensures { (I : Problem) → Rooting held.now.store.now I k cells.old → k < length I.clauses
-        → Rooting held.now.store.now I (suc k) cells.new }
+    requires { Rooted held.now.store.now held.now.counts.clauses k cells.old × (k < held.now.counts.clauses) }
+    ensures { Rooted held.now.store.now held.now.counts.clauses (suc k) cells.new }
 {
     let weight = held.weight_of(k);
     match held.codes_of(k) {
