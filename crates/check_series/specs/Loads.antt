@@ -1,8 +1,7 @@
 -- What was read lies within the memory lent for it.
-use Rattle.std.specs.Prelude.{ℕ, ◌≤◌}
-use Rattle.check_series.specs.declared.files.Loaded.{Loaded}
-use Rattle.check_series.specs.declared.files.Loaded.TheVariants.{Whole, Unread}
+use Rattle.std.specs.Prelude.{ℕ, ◌≤◌, List, length, Result, IfOk}
+use Rattle.std.specs.Borrow.{Bor}
+use Rattle.check_series.specs.declared.files.Unread.{Unread}
 
-abbrev pub Within : ℕ → Loaded → Type 0
-Within room (Whole n) = n ≤ room
-Within room Unread = Unit {0}
+abbrev pub Within : ℕ → Result (Bor (List ℕ)) Unread → Type 0
+Within room result = IfOk result (λ read. length read.now ≤ room)
