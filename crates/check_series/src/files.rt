@@ -46,13 +46,24 @@ fn fill<'a, R: Read>(file: &mut R, room: &'a mut [u8]) -> Option<&'a [u8]>
     Some(&room[..all])
 }
 
-// A file by its name, in the part of the room that holds it.
-pub fn load<'a>(rt: &impl Files, name: &'static str, room: &'a mut [u8]) -> Result<&'a [u8], Unread>
+// A file by its name, in the part of the room that holds it. A name that is no text can't be read: std's paths are text.
+pub fn load<'a>(rt: &impl Files, name: &[u8], room: &'a mut [u8]) -> Option<&'a [u8]>
     ensures within { Within (length room.old) result }
-    ensures most { IfOk result (λ read. length read.now ≤ MOST) }
+    ensures most { IfSome result (λ read. length read.now ≤ MOST) }
+{
+    let path = str::from_utf8(name).ok()?;
+    let mut file = fs::open(rt, path).ok()?;
+    fill(&mut file, room)
+}
+
+// A file of the series, or its name.
+pub fn load_named<'a>(
+    rt: &impl Files,
+    name: &'static str,
+    room: &'a mut [u8],
+) -> Result<&'a [u8], Unread>
+    ensures within { IfOk result (λ read. (length read.now ≤ length room.old) × (length read.now ≤ MOST)) }
     ensures unread { IfErr result (λ unread. unread.name.now ≡ name.now) }
 {
-    let unread = Unread { name };
-    let mut file = fs::open(rt, name).map_err(|_| unread)?;
-    fill(&mut file, room).ok_or(unread)
+    load(rt, name.as_bytes(), room).ok_or(Unread { name })
 }

@@ -4,7 +4,7 @@
 mod files;
 mod judge;
 
-use files::{ROOM, Unread, load};
+use files::{ROOM, Unread, load_named};
 use instance::Checked;
 use judge::judge_series;
 use std::io;
@@ -13,11 +13,11 @@ use std::rt::Files;
 // The judgement on the series, or the first of its files that is unread.
 fn answer(rt: &impl Files) -> Result<Checked, Unread> {
     let mut text = [0u8; ROOM];
-    let text = load(rt, "series.wcnf", &mut text)?;
+    let text = load_named(rt, "series.wcnf", &mut text)?;
     let mut bytes = [0u8; ROOM];
-    let bytes = load(rt, "series.asg", &mut bytes)?;
+    let bytes = load_named(rt, "series.asg", &mut bytes)?;
     let mut proof = [0u8; ROOM];
-    let proof = load(rt, "series.prf", &mut proof)?;
+    let proof = load_named(rt, "series.prf", &mut proof)?;
     Ok(judge_series(text, bytes, proof))
 }
 
