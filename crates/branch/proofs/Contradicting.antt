@@ -1,14 +1,12 @@
 -- A contradiction: its stores, and what the calculus has of them.
-use Rattle.std.proofs.Common.{Ok, Err, ℕ, ◌+◌, ◌*◌, ◌-◌, ◌<◌, ◌≤◌, min, Bool, true, false, List, ◌≡◌, refl, ap, sym, ◌∙◌, arith, lt-ltb, le-ltb, eq-eqb, length, get_or, set, length-set, get_or-set_other}
+use Rattle.std.proofs.Common.{Ok, Err, ◌⊎◌, ⊎_elim, ℕ, ◌+◌, ◌*◌, ◌-◌, ◌<◌, ◌≤◌, min, Bool, true, false, List, ◌≡◌, refl, ap, sym, ◌∙◌, arith, lt-ltb, le-ltb, eqb, length, get_or, set, length-set, get_or-set_other}
 use Rattle.std.proofs.Math.Option.{some, none}
-use Rattle.std.proofs.Math.Decide.{ℕ_discrete}
 use Rattle.instance.specs.Limits.{most_variables, most_weight}
 use Rattle.instance.specs.Memory.{cells_size, log_size}
 use Rattle.instance.specs.Clause.{Literal, pos, neg, same, variable_of, Clause}
 use Rattle.instance.specs.Within.{In}
-use Rattle.instance.specs.Store.{code_of, flag_of}
-use Rattle.instance.specs.Theorems.Choices.{on_test}
-use Rattle.instance.specs.Theorems.Held.{flag_read}
+use Rattle.instance.specs.Store.{code_of}
+use Rattle.instance.specs.Theorems.Choices.{on_test, never}
 use Rattle.instance.specs.declared.faults.Fault.TheVariants.{NothingToContradict}
 use Rattle.journal.specs.Undo.{Put}
 use Rattle.journal.specs.Theorems.Stores.{later_put, later_join}
@@ -20,7 +18,7 @@ use Rattle.branch.specs.declared.contradiction.Settlement.{Settlement}
 use Rattle.branch.proofs.Literals.{same_true}
 use Rattle.branch.proofs.Stores.{sum_set}
 use Rattle.branch.proofs.Changes.{shows_weight, shows_book}
-use Rattle.branch.proofs.Readings.{booked_is, weight_is, mark_is}
+use Rattle.branch.proofs.Readings.{booked_is, weight_is, mark_test}
 use Rattle.branch.proofs.Rules.{weight_entries, kill_room, works_kill}
 
 -- ---- the stores
@@ -42,14 +40,11 @@ settled {cells} {p = p} {s = s} a b c size lp lq room =
     }
 
 -- A settlement makes no weight, and what it books spends one of the two.
-pub frees : {a b p q : ℕ} {s : Settlement} → Settles a b p q s
+pub frees : {a b : ℕ} {p q : Bool} {s : Settlement} → Settles a b p q s
     → (s.booked + s.first + s.second ≤ a + b) × (0 < s.booked → min s.first 1 + min s.second 1 + 1 ≤ min a 1 + min b 1)
-frees {a} {b} {p} {q} {s} st = go (ℕ_discrete p 1) (ℕ_discrete q 1)
-  where
-    go : Dec (p ≡ 1) → Dec (q ≡ 1) → (s.booked + s.first + s.second ≤ a + b) × (0 < s.booked → min s.first 1 + min s.second 1 + 1 ≤ min a 1 + min b 1)
-    go (yes e) u = let f = st.first_hard e in (omega arith, λ lt. omega arith)
-    go (no n) (yes e) = let f = st.second_hard n e in (omega arith, λ lt. omega arith)
-    go (no n) (no m) = let f = st.both_soft n m in (omega arith, λ lt. omega arith)
+frees {p = true} st = let f = st.first_hard refl in (omega arith, λ lt. omega arith)
+frees {p = false} {q = true} st = let f = st.second_hard refl refl in (omega arith, λ lt. omega arith)
+frees {p = false} {q = false} st = let f = st.both_soft refl refl in (omega arith, λ lt. omega arith)
 
 -- ---- the rules of the calculus, by their tests
 spend_some : (l : Literal) (b : Branch) → 0 < b.weight l → spend l b ≡ some (book (b.weight l) (set_weight l 0 b))
@@ -86,27 +81,27 @@ settled_by x s b = book s.booked (set_weight (pos x) s.first (set_weight (neg x)
 
 -- The calculus leaves that branch, unless nothing is booked.
 module _ (x : ℕ) (b : Branch) (s : Settlement) where
-  settled_some : (t u : Bool) → (t ≡ true → u ≡ true → ⊥) → Settles (b.weight (pos x)) (b.weight (neg x)) (flag_of t) (flag_of u) s → 0 < s.booked
+  settled_some : (t u : Bool) → ((t ≡ true) × (u ≡ false) ⊎ (t ≡ false)) → Settles (b.weight (pos x)) (b.weight (neg x)) t u s → 0 < s.booked
       → contradict_by t u x b ≡ some (settled_by x s b)
-  unfolding contradict_by flag_of
-  settled_some true true n st lt = absurd (n refl refl)
+  unfolding contradict_by
+  settled_some true true n st lt = ⊎_elim (λ w. never w.1) never n
   settled_some true false n st lt =
       let (eb, ef, es) = st.first_hard refl in
       rw (eb, es, set_same (pos x) (set_weight (neg x) 0 b) s.first (ef ∙ other_side x 0 b)) (spend_some (neg x) b (omega arith))
   settled_some false true n st lt =
-      let (eb, ef, es) = st.second_hard (λ z. omega arith) refl in
+      let (eb, ef, es) = st.second_hard refl refl in
       rw (eb, ef, set_same (neg x) b s.second es) (spend_some (pos x) b (omega arith))
   settled_some false false n st lt =
-      let (eb, ef, es) = st.both_soft (λ z. omega arith) (λ z. omega arith) in
+      let (eb, ef, es) = st.both_soft refl refl in
       rw (eb, ef, es) (cancel_some x (min (b.weight (pos x)) (b.weight (neg x))) b (omega arith))
 
-  settled_none : (t u : Bool) → (t ≡ true → u ≡ true → ⊥) → Settles (b.weight (pos x)) (b.weight (neg x)) (flag_of t) (flag_of u) s → s.booked ≡ 0
+  settled_none : (t u : Bool) → ((t ≡ true) × (u ≡ false) ⊎ (t ≡ false)) → Settles (b.weight (pos x)) (b.weight (neg x)) t u s → s.booked ≡ 0
       → contradict_by t u x b ≡ none
-  unfolding contradict_by flag_of
-  settled_none true true n st z = absurd (n refl refl)
+  unfolding contradict_by
+  settled_none true true n st z = ⊎_elim (λ w. never w.1) never n
   settled_none true false n st z = spend_none (neg x) b (omega (arith, st.first_hard refl))
-  settled_none false true n st z = spend_none (pos x) b (omega (arith, st.second_hard (λ e. omega arith) refl))
-  settled_none false false n st z = cancel_none x _ b (omega (arith, st.both_soft (λ e. omega arith) (λ e. omega arith)))
+  settled_none false true n st z = spend_none (pos x) b (omega (arith, st.second_hard refl refl))
+  settled_none false false n st z = cancel_none x _ b (omega (arith, st.both_soft refl refl))
 
 -- ---- the variable x in the cells
 module _ {x : ℕ} (lo : 1 ≤ x) (hi : x ≤ most_variables) {cs : List Clause} {cells : List ℕ} {b : Branch} {top d : ℕ} (h : Works cs cells top d 0 b) where
@@ -115,12 +110,6 @@ module _ {x : ℕ} (lo : 1 ≤ x) (hi : x ≤ most_variables) {cs : List Clause}
 
   abbrev q_weight : ℕ
   q_weight = get_or cells (2 * x + 1) 0
-
-  abbrev p_mark : ℕ
-  p_mark = get_or cells (marks_at + 2 * x) 0
-
-  abbrev q_mark : ℕ
-  q_mark = get_or cells (marks_at + (2 * x + 1)) 0
 
   p_in : In most_variables (pos x)
   unfolding variable_of
@@ -137,17 +126,6 @@ module _ {x : ℕ} (lo : 1 ≤ x) (hi : x ≤ most_variables) {cs : List Clause}
   q_is : q_weight ≡ b.weight (neg x)
   unfolding code_of
   q_is = weight_is h.shows (neg x) q_in
-
-  p_marked : p_mark ≡ flag_of (b.marked (pos x))
-  unfolding code_of
-  p_marked = mark_is h.shows (pos x) p_in
-
-  q_marked : q_mark ≡ flag_of (b.marked (neg x))
-  unfolding code_of
-  q_marked = mark_is h.shows (neg x) q_in
-
-  flag_on : {n : ℕ} (t : Bool) → n ≡ flag_of t → n ≡ 1 → t ≡ true
-  flag_on t f e = sym (flag_read t) ∙ eq-eqb (flag_of t) 1 (sym f ∙ e)
 
   -- the sums after three stores
   sums : (second first total : ℕ) (f : Cell → ℕ → ℕ)
@@ -182,43 +160,48 @@ module _ {x : ℕ} (lo : 1 ≤ x) (hi : x ≤ most_variables) {cs : List Clause}
   unfolding entries_of
   clash_room lt = omega (arith, sums 0 0 0 entries_of, weight_entries (pos x) p_weight, weight_entries (neg x) q_weight)
 
-  -- ---- both literals are hard
-  pub clash_dead : {log cells' log' : List ℕ} {t : ℕ} → b.dead ≡ false → p_mark ≡ 1 → q_mark ≡ 1 → Put cells log top dead_at 1 cells' log' t
-      → log_size ≤ length log → Clashed cs d cells log top cells' log' t (Ok tt) (contradict x b)
-  unfolding at contradict contradict_by
-  clash_dead alive p q put room =
-      let size = h.shows.size in
-      rw (flag_on (b.marked (pos x)) p_marked p, flag_on (b.marked (neg x)) q_marked q)
-      (rw (put.stored, put.height) (works_kill h alive), later_put put (omega arith) (omega (arith, kill_room h alive)))
+  -- ---- by which of the two literals are hard
+  module _ {p_hard q_hard : Bool} (p_read : p_hard ≡ eqb (get_or cells (marks_at + 2 * x) 0) 1) (q_read : q_hard ≡ eqb (get_or cells (marks_at + (2 * x + 1)) 0) 1) where
+    p_marked : p_hard ≡ b.marked (pos x)
+    unfolding code_of
+    p_marked = p_read ∙ mark_test h.shows (pos x) p_in
 
-  -- ---- or else there is a settlement
-  module _ (s : Settlement) (soft : p_mark ≡ 1 → q_mark ≡ 1 → ⊥) (st : Settles p_weight q_weight p_mark q_mark s) where
-    both : b.marked (pos x) ≡ true → b.marked (neg x) ≡ true → ⊥
-    unfolding flag_of
-    both e f = soft (p_marked ∙ ap flag_of e) (q_marked ∙ ap flag_of f)
+    q_marked : q_hard ≡ b.marked (neg x)
+    unfolding code_of
+    q_marked = q_read ∙ mark_test h.shows (neg x) q_in
 
-    meant : Settles (b.weight (pos x)) (b.weight (neg x)) (flag_of (b.marked (pos x))) (flag_of (b.marked (neg x))) s
-    meant = rw (p_is, q_is, p_marked, q_marked) at st
+    pub clash_dead : {log cells' log' : List ℕ} {t : ℕ} → b.dead ≡ false → p_hard ≡ true → q_hard ≡ true → Put cells log top dead_at 1 cells' log' t
+        → log_size ≤ length log → Clashed cs d cells log top cells' log' t (Ok tt) (contradict x b)
+    unfolding at contradict contradict_by
+    clash_dead alive p q put room =
+        let size = h.shows.size in
+        rw (← p_marked, ← q_marked, p, q)
+        (rw (put.stored, put.height) (works_kill h alive), later_put put (omega arith) (omega (arith, kill_room h alive)))
 
-    works_settled : 0 < s.booked → Works cs (settled_in cells (2 * x) (2 * x + 1) s) (top + 3) d 0 (settled_by x s b)
-    unfolding at code_of set_weight entries_of extensions_of weights_of
-    works_settled lt =
-        let total : ℕ = get_or cells booked_at 0 + s.booked in
-        let second = shows_weight h.shows (neg x) q_in s.second in
-        let first = shows_weight second (pos x) p_in s.first in
-        let (most, fewer) = frees st in
-        record {
-          shows = rw (booked_is h.shows) (shows_book first s.booked);
-          room = omega (arith, h.room, sums s.second s.first total entries_of, fewer lt, weight_entries (pos x) p_weight, weight_entries (neg x) q_weight, weight_entries (pos x) s.first, weight_entries (neg x) s.second);
-          deep = omega (arith, h.deep, sums s.second s.first total extensions_of);
-          light = omega (arith, h.light, sums s.second s.first total (weights_of cs), most);
-        }
+    module _ (s : Settlement) (soft : (p_hard ≡ true) × (q_hard ≡ false) ⊎ (p_hard ≡ false)) (st : Settles p_weight q_weight p_hard q_hard s) where
+      meant : Settles (b.weight (pos x)) (b.weight (neg x)) p_hard q_hard s
+      meant = rw (p_is, q_is) at st
 
-    pub clash_nothing : (log : List ℕ) → s.booked ≡ 0 → Clashed cs d cells log top cells log top (Err NothingToContradict) (contradict x b)
-    unfolding contradict
-    clash_nothing log z = rw (settled_none x b s _ _ both meant z) (refl, refl, refl, refl)
+      works_settled : 0 < s.booked → Works cs (settled_in cells (2 * x) (2 * x + 1) s) (top + 3) d 0 (settled_by x s b)
+      unfolding at code_of set_weight entries_of extensions_of weights_of
+      works_settled lt =
+          let total : ℕ = get_or cells booked_at 0 + s.booked in
+          let second = shows_weight h.shows (neg x) q_in s.second in
+          let first = shows_weight second (pos x) p_in s.first in
+          let (most, fewer) = frees st in
+          record {
+            shows = rw (booked_is h.shows) (shows_book first s.booked);
+            room = omega (arith, h.room, sums s.second s.first total entries_of, fewer lt, weight_entries (pos x) p_weight, weight_entries (neg x) q_weight, weight_entries (pos x) s.first, weight_entries (neg x) s.second);
+            deep = omega (arith, h.deep, sums s.second s.first total extensions_of);
+            light = omega (arith, h.light, sums s.second s.first total (weights_of cs), most);
+          }
 
-    pub clash_settled : {log cells' log' : List ℕ} {t : ℕ} → (s.booked ≡ 0 → ⊥) → Settled cells log top (2 * x) (2 * x + 1) s cells' log' t
-        → Clashed cs d cells log top cells' log' t (Ok tt) (contradict x b)
-    unfolding contradict
-    clash_settled n se = rw (settled_some x b s _ _ both meant (omega (arith, n))) (rw (se.stored, se.height) (works_settled (omega (arith, n))), se.later)
+      pub clash_nothing : (log : List ℕ) → s.booked ≡ 0 → Clashed cs d cells log top cells log top (Err NothingToContradict) (contradict x b)
+      unfolding contradict
+      clash_nothing log z = rw (← p_marked, ← q_marked, settled_none x b s _ _ soft meant z) (refl, refl, refl, refl)
+
+      pub clash_settled : {log cells' log' : List ℕ} {t : ℕ} → (s.booked ≡ 0 → ⊥) → Settled cells log top (2 * x) (2 * x + 1) s cells' log' t
+          → Clashed cs d cells log top cells' log' t (Ok tt) (contradict x b)
+      unfolding contradict
+      clash_settled n se =
+          rw (← p_marked, ← q_marked, settled_some x b s _ _ soft meant (omega (arith, n))) (rw (se.stored, se.height) (works_settled (omega (arith, n))), se.later)

@@ -23,9 +23,9 @@ module _ {cs : List Clause} {cells : List ℕ} {b : Branch} (h : Shows cs cells 
   unfolding at has
   weight_is l i = h.holds (weight l) i
 
-  pub mark_is : (l : Literal) → In most_variables l → get_or cells (marks_at + code_of l) 0 ≡ flag_of (b.marked l)
+  pub mark_test : (l : Literal) → In most_variables l → eqb (get_or cells (marks_at + code_of l) 0) 1 ≡ b.marked l
   unfolding at has
-  mark_is l i = h.holds (marked l) i
+  mark_test l i = ap (λ n. eqb n 1) (h.holds (marked l) i) ∙ flag_read (b.marked l)
 
   pub dead_test : eqb (get_or cells dead_at 0) 1 ≡ b.dead
   unfolding at has

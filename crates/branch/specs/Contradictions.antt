@@ -1,5 +1,5 @@
 -- What a contradiction does in cells.
-use Rattle.std.specs.Prelude.{ℕ, ◌+◌, ◌-◌, min, false, List, ◌≡◌, get_or, set, Result, Ok, Err}
+use Rattle.std.specs.Prelude.{ℕ, ◌+◌, ◌-◌, min, Bool, true, false, List, ◌≡◌, get_or, set, Result, Ok, Err}
 use Rattle.std.proofs.Math.Option.{Option, some, none}
 use Rattle.instance.specs.Clause.{Clause}
 use Rattle.journal.specs.Undo.{Later}
@@ -14,11 +14,11 @@ use Rattle.branch.specs.declared.contradiction.Settlement.{Settlement}
 abbrev pub Alive : List ℕ → ℕ → Type 0
 Alive cells top = (cs : List Clause) × (d : ℕ) × (b : Branch) × Works cs cells top d 0 b × (b.dead ≡ false)
 
--- the weights a and b, with the marks p and q: a mark of 1 is hard
-pub record Settles (a b p q : ℕ) (s : Settlement) : Type 0 where
-  pub first_hard : p ≡ 1 → (s.booked ≡ b) × (s.first ≡ a) × (s.second ≡ 0)
-  pub second_hard : (p ≡ 1 → ⊥) → q ≡ 1 → (s.booked ≡ a) × (s.first ≡ 0) × (s.second ≡ b)
-  pub both_soft : (p ≡ 1 → ⊥) → (q ≡ 1 → ⊥) → (s.booked ≡ min a b) × (s.first ≡ a - min a b) × (s.second ≡ b - min a b)
+-- the weights a and b of two literals: p and q say whether each is hard
+pub record Settles (a b : ℕ) (p q : Bool) (s : Settlement) : Type 0 where
+  pub first_hard : p ≡ true → (s.booked ≡ b) × (s.first ≡ a) × (s.second ≡ 0)
+  pub second_hard : p ≡ false → q ≡ true → (s.booked ≡ a) × (s.first ≡ 0) × (s.second ≡ b)
+  pub both_soft : p ≡ false → q ≡ false → (s.booked ≡ min a b) × (s.first ≡ a - min a b) × (s.second ≡ b - min a b)
 
 -- the cells with a settlement of the literals p and q stored
 abbrev pub settled_in : List ℕ → ℕ → ℕ → Settlement → List ℕ

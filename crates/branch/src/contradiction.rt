@@ -1,10 +1,11 @@
-ghost use Rattle.std.specs.Prelude.{false, List, ◌≡◌, ℕ, ◌+◌, ◌*◌, ◌<◌, ◌≤◌, ◌^◌, length, get_or};
+ghost use Rattle.std.specs.Prelude.{false, List, ◌≡◌, ℕ, ◌+◌, ◌*◌, ◌<◌, ◌≤◌, ◌^◌, eqb, length, get_or};
 ghost use Rattle.instance.specs.Limits.{most_variables};
 ghost use Rattle.instance.specs.Memory.{cells_size};
 ghost use Rattle.instance.specs.Clause.{Clause};
 ghost use Rattle.calculus.specs.Branch as calculus;
-ghost use Rattle.branch.specs.Cells.{booked_at};
+ghost use Rattle.branch.specs.Cells.{booked_at, marks_at};
 ghost use Rattle.branch.specs.Works.{Works};
+ghost use Rattle.branch.specs.Extensions.{Coded};
 ghost use Rattle.branch.specs.Contradictions.{Alive, Settles, Settled, Clashed};
 
 use crate::{BOOKED, Branch, DEAD, MARKS};
@@ -18,19 +19,19 @@ struct Settlement {
     second: u64,
 }
 
-// The two weights of a variable, each with its literal's mark: where one literal is hard the other's weight is booked, and the
-// weight on the hard side stays. Otherwise the smaller weight is taken from both.
-fn settle(a: u64, b: u64, a_mark: u64, b_mark: u64) -> Settlement
-    ensures { Settles a b a_mark b_mark result }
+// The weights of a variable's two literals: where one literal is hard the other's weight is booked, and the weight on the hard
+// side stays. Otherwise the smaller weight is taken from both.
+fn settle(a: u64, b: u64, a_hard: bool, b_hard: bool) -> Settlement
+    ensures { Settles a b a_hard b_hard result }
 {
-    if a_mark == 1 {
+    if a_hard {
         return Settlement {
             booked: b,
             first: a,
             second: 0,
         };
     }
-    if b_mark == 1 {
+    if b_hard {
         return Settlement {
             booked: a,
             first: 0,
@@ -46,6 +47,14 @@ fn settle(a: u64, b: u64, a_mark: u64, b_mark: u64) -> Settlement
 }
 
 impl Branch<'_> {
+    // Whether the literal is marked hard.
+    fn is_hard(&self, literal: usize) -> bool
+        requires { Coded literal }
+        ensures { result ≡ eqb (get_or self.now.journal.cells.now (marks_at + literal) 0) 1 }
+    {
+        self.journal.cells[MARKS + literal] == 1
+    }
+
     // Stores a settlement of the literals p and q.
     fn book(&mut self, p: usize, q: usize, s: Settlement)
         requires in_bounds { (p < cells_size) × (q < cells_size) × (2 * self.old.journal.top + 5 < length self.old.journal.log.now) }
@@ -69,13 +78,13 @@ impl Branch<'_> {
     {
         let p = 2 * x;
         let q = 2 * x + 1;
-        let p_mark = self.journal.cells[MARKS + p];
-        let q_mark = self.journal.cells[MARKS + q];
-        if p_mark == 1 && q_mark == 1 {
+        let p_hard = self.is_hard(p);
+        let q_hard = self.is_hard(q);
+        if p_hard && q_hard {
             self.journal.put(DEAD, 1);
             return Ok(());
         }
-        let s = settle(self.journal.cells[p], self.journal.cells[q], p_mark, q_mark);
+        let s = settle(self.journal.cells[p], self.journal.cells[q], p_hard, q_hard);
         if s.booked == 0 {
             return Err(Fault::NothingToContradict);
         }

@@ -12,6 +12,7 @@ mod start;
 use journal::Journal;
 
 // Where the cells of each kind begin; the weight of a literal lies at its code.
+// The cells are lent memory of `u64`, one word for each, so a death, a mark and a shut clause are each a 1 there.
 const BOOKED: usize = 0;
 
 const DEAD: usize = 1;

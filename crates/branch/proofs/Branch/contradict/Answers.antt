@@ -1,4 +1,4 @@
-use Rattle.std.proofs.Common.{arith, ⊎_elim}
+use Rattle.std.proofs.Common.{arith}
 use Rattle.branch.proofs.Rules.{kill_room}
 use Rattle.branch.proofs.Contradicting.{frees, clash_small, clash_room, clash_dead, clash_nothing, clash_settled}
 use Rattle.branch.proofs.Branch.contradict.Goals as goal
@@ -8,15 +8,15 @@ put-requires c =
     let (cs, d, b, h, alive) = c.requires.alive in
     (omega arith, omega (arith, kill_room h alive))
 
-pub returns-then-q_mark-eq1 : goal.returns-then-q_mark-eq1
-returns-then-q_mark-eq1 c cs d b h alive =
+pub returns-then-q_hard : goal.returns-then-q_hard
+returns-then-q_hard c cs d b h alive =
     let (lo, hi) = c.requires.in_range in
-    clash_dead lo hi h alive c.if-p_mark-eq1.true c.if-q_mark-eq1.true c.put.ensures c.args.self.now.enough_log
+    clash_dead lo hi h c.is_hard-p_hard.ensures c.is_hard-q_hard.ensures alive c.if-p_hard.true c.if-q_hard.true c.put.ensures c.args.self.now.enough_log
 
 pub returns-then-s-eq0 : goal.returns-then-s-eq0
 returns-then-s-eq0 c cs d b h alive =
     let (lo, hi) = c.requires.in_range in
-    clash_nothing lo hi h _ (λ p q. ⊎_elim (λ w. w.1 q) (λ n. n p) c.else-p_mark-eq1.either) c.settle-s.ensures _ c.if-s-eq0.true
+    clash_nothing lo hi h c.is_hard-p_hard.ensures c.is_hard-q_hard.ensures _ c.else-p_hard.either c.settle-s.ensures _ c.if-s-eq0.true
 
 pub book-requires-clause-in_bounds : goal.book-requires-clause-in_bounds
 book-requires-clause-in_bounds c =
@@ -37,4 +37,4 @@ book-requires-clause-booking_fits c =
 pub returns : goal.returns
 returns c cs d b h alive =
     let (lo, hi) = c.requires.in_range in
-    clash_settled lo hi h _ (λ p q. ⊎_elim (λ w. w.1 q) (λ n. n p) c.else-p_mark-eq1.either) c.settle-s.ensures c.if-s-eq0.false c.book.ensures
+    clash_settled lo hi h c.is_hard-p_hard.ensures c.is_hard-q_hard.ensures _ c.else-p_hard.either c.settle-s.ensures c.if-s-eq0.false c.book.ensures
