@@ -1,4 +1,4 @@
-pub mod Choices
 pub mod Literals
+pub mod Stores
 pub mod Tallies
 pub mod Values

@@ -3,6 +3,7 @@
 // What assignments are worth, and which of two is the cheaper.
 mod choosing;
 mod falsify;
+mod lending;
 mod tally;
 mod valuing;
 
