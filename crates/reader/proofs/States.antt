@@ -1,18 +1,17 @@
 -- Where the reader stands: between lines, or inside a clause. What it has read, what the store holds of it, and what is still
 -- to be read; the promise when reading ends.
-use Prim.Native.Nat.{ℕ, ◌+◌, ◌≤◌, ◌<◌}
-use mathlib.Core.List.{List}
-use mathlib.Core.Path.{◌≡◌, refl, ap, subst, ◌∙◌}
-use native.Mathlib.Omega.{arith}
-use lib.ListN.{length, drop, set, length-set}
-use lib.Seq.{drop-set-lt}
+use Rattle.std.specs.Prelude.{ℕ, ◌+◌, ◌<◌, ◌≤◌, List, ◌≡◌, refl, length, drop, set, Ok, Err}
+use Rattle.std.proofs.Common.{ap, subst, ◌∙◌, arith, length-set}
+use Rattle.std.proofs.lemmas.List.{drop-set-lt}
 use Rattle.instance.specs.Limits.{most_clauses}
-use Rattle.instance.specs.Clause.{Literal, Problem, tautology}
+use Rattle.instance.specs.Clause.{Literal, Problem, tautology, total_of}
 use Rattle.instance.specs.Memory.{store_size}
 use Rattle.instance.specs.Refusals.{staged}
-use Rattle.instance.specs.Store.{weights_at, flags_at, weight_of, flag_of, Stored}
+use Rattle.instance.specs.Store.{weights_at, flags_at, flag_of, Stored}
+use Rattle.instance.specs.Weights.{meant}
 use Rattle.instance.specs.declared.Instance.{Instance}
 use Rattle.instance.specs.declared.answers.Surveyed.{Surveyed}
+use Rattle.instance.specs.declared.weights.Weight.{Weight}
 use Rattle.reader.specs.Lines.{lines}
 use Rattle.reader.specs.Reading.{read, refused, nothing, read_of}
 use Rattle.reader.specs.Survey.{counts, survey_of}
@@ -57,12 +56,13 @@ pub record Between (text before store : List ℕ) (counted : Instance) (kept i :
   pub lent : Lent before store
   pub goes : read_of text ≡ on_text (between I) (from text i)
 
-pub begins : (text store : List ℕ) (counted : Instance) → counted ≡ counts nothing → store_size ≤ length store
-    → Between text store store counted 0 0
-unfolding read_of nothing
+pub begins : (text store : List ℕ) (counted : Instance)
+    → (counted.variables ≡ 0) × ((counted.clauses ≡ 0) × ((counted.written ≡ 0) × (counted.total ≡ 0)))
+    → store_size ≤ length store → Between text store store counted 0 0
+unfolding read_of nothing counts total_of
 begins text store counted e room = record {
   I = nothing;
-  counts_to = e;
+  counts_to = let (a, b) = e in let (d, f) = b in let (g, h) = f in rw (a, d, g, h) refl;
   sound = nothing_sound;
   rows = rows_none store room;
   shorter = omega arith;
@@ -72,23 +72,23 @@ begins text store counted e room = record {
 }
 
 -- ---- inside a clause: beside the instance I, the literals ls of a clause of this weight are read
-pub record Inside (text before : List ℕ) (i₀ : ℕ) (store : List ℕ) (counted : Instance) (kept i weight clause start : ℕ)
-    : Type 0 where
+pub record Inside (text before : List ℕ) (i₀ : ℕ) (store : List ℕ) (counted : Instance) (kept i : ℕ)
+    (weight : Weight) (clause start : ℕ) : Type 0 where
   pub I : Problem
   pub ls : List Literal
   pub counts_to : counted ≡ counts I
-  pub work : Open I (weight_of weight) ls
+  pub work : Open I (meant weight) ls
   pub number : clause ≡ length I.clauses
-  pub row : Row store I.variables I.clauses start kept (weight_of weight) (flag_of (tautology ls)) ls
+  pub row : Row store I.variables I.clauses start kept (meant weight) (flag_of (tautology ls)) ls
   pub shorter : kept ≤ I.written
   pub further : i₀ ≤ i
   pub here : i ≤ length text
   pub lent : Lent before store
-  pub goes : read_of text ≡ on_text (inside I (weight_of weight) ls) (from text i)
+  pub goes : read_of text ≡ on_text (inside I (meant weight) ls) (from text i)
 
 -- ---- the promise
 pub refuses : {text before store : List ℕ} {n p : ℕ} → read_of text ≡ refused n p → Lent before store
-    → ReadAnswers text before (Surveyed.Refused (staged n p)) store
+    → ReadAnswers text before (Err (staged n p)) store
 unfolding survey_of
 refuses {n = n} {p = p} e l = record {
   answer = rw (e, survey_of);
@@ -98,7 +98,7 @@ refuses {n = n} {p = p} e l = record {
 }
 
 pub accepts : {text before store : List ℕ} {counted : Instance} {kept i : ℕ} (b : Between text before store counted kept i)
-    → read_of text ≡ read b.I → ReadAnswers text before (Surveyed.Counted counted) store
+    → read_of text ≡ read b.I → ReadAnswers text before (Ok counted) store
 unfolding survey_of
 accepts {store = store} b e =
     let I = b.I in

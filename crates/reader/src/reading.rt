@@ -1,74 +1,65 @@
-ghost use Rattle.std.specs.Prelude.{◌≡◌, ◌≤◌, length};
+ghost use Rattle.std.specs.Prelude.{◌≤◌, length};
 ghost use Rattle.instance.specs.Memory.{store_size};
-ghost use Rattle.instance.specs.Refusals.{staged};
 ghost use Rattle.reader.specs.Promise.{ReadAnswers};
 
-use crate::counting::{nothing, with_clause, with_literal};
+use crate::counting::{with_clause, with_literal};
 use crate::keeping::{begin, keep};
-use crate::tokens::{past_blanks, past_line, past_token};
-use crate::words::{Opening, Word, first_word, later_word};
-use instance::{Surveyed, refusal};
-
-fn refused(number: u64, place: usize) -> Surveyed
-    ensures { result ≡ Surveyed.Refused (staged number place) }
-{
-    Surveyed::Refused(refusal(number, place))
-}
+use crate::tokens::{next_token, past_line};
+use crate::words::{first_word, later_word};
+use instance::{Fault, Instance, Stage};
 
 // Reads a text into the store, line by line and token by token, up to the first token at fault.
-pub fn read(text: &[u8], store: &mut [u64]) -> Surveyed
+pub fn read(text: &[u8], store: &mut [u64]) -> Result<Instance, Stage>
     requires { store_size ≤ length store.old }
     ensures { ReadAnswers text.now store.old result store.new }
 {
-    let mut counted = nothing();
+    let mut counted = Instance::default();
     // literals of all clauses in the store
-    let mut kept: usize = 0;
-    let mut i: usize = 0;
+    let mut kept = 0;
+    let mut i = 0;
     'text: loop {
-        let at = past_blanks(text, i);
-        let end = past_token(text, at);
-        if end <= at {
-            if text.len() <= at {
-                break 'text Surveyed::Counted(counted);
+        let token = next_token(text, i);
+        match token.bytes {
+            [] if token.place == text.len() => break 'text Ok(counted),
+            [] => {
+                i = token.place + 1;
+                continue 'text;
             }
-            i = at + 1;
-            continue 'text;
+            [b'c', ..] => {
+                i = past_line(text, token.end());
+                continue 'text;
+            }
+            _ => {}
         }
-        if text[at] == b'c' {
-            i = past_line(text, end);
-            continue 'text;
-        }
-        let weight = match first_word(&text[at..end], counted.clauses, counted.total) {
-            Opening::Weight(code) => code,
-            Opening::Fault(number) => break 'text refused(number, at),
+        let weight = match first_word(token.bytes, counted.clauses, counted.total) {
+            Ok(weight) => weight,
+            Err(fault) => break 'text Err(fault.at(token.place)),
         };
         let clause = counted.clauses;
         let start = kept;
         begin(store, clause, weight);
-        i = end;
-        loop {
-            let at = past_blanks(text, i);
-            let end = past_token(text, at);
-            if end <= at {
-                break 'text refused(3, at);
+        i = token.end();
+        'clause: loop {
+            let token = next_token(text, i);
+            if token.bytes.is_empty() {
+                break 'text Err(Fault::ClauseWithoutEnd.at(token.place));
             }
-            match later_word(&text[at..end], counted.written) {
-                Word::Fault(number) => break 'text refused(number, at),
-                Word::Literal(code) => {
+            i = token.end();
+            match later_word(token.bytes, counted.written) {
+                Ok(Some(code)) => {
                     counted = with_literal(counted, code);
                     kept = keep(store, clause, start, kept, code);
-                    i = end;
                 }
-                Word::End => {
-                    i = past_blanks(text, end);
-                    if i < past_token(text, i) {
-                        break 'text refused(2, i);
-                    }
-                    store[clause] = kept as u64;
-                    counted = with_clause(counted, weight);
-                    continue 'text;
-                }
+                Ok(None) => break 'clause,
+                Err(fault) => break 'text Err(fault.at(token.place)),
             }
         }
+        let after = next_token(text, i);
+        if !after.bytes.is_empty() {
+            break 'text Err(Fault::WrongToken.at(after.place));
+        }
+        store[clause] = kept as u64;
+        counted = with_clause(counted, weight);
+        i = after.place;
     }
 }

@@ -6,4 +6,4 @@ use Rattle.reader.proofs.counting.with_literal.Goals as goal
 
 pub returns : goal.returns
 unfolding counts with_literal
-returns c I e = rw (c.larger.ensures, e, add-one, variable_in)
+returns c I e = rw (c.max.ensures, e, add-one, variable_in)

@@ -3,11 +3,11 @@ use Rattle.std.proofs.Common.{◌-◌, length}
 use Rattle.reader.proofs.States.{Between, Inside}
 use Rattle.reader.proofs.reading.read.Given as goal
 
-abbrev pub invariant-loop-counted : goal.invariant-loop-counted
-invariant-loop-counted l = Inside l.text l.initial.store l.initial.i l.store l.counted l.kept l.i l.weight l.clause l.start
+abbrev pub invariant-clause : goal.invariant-clause
+invariant-clause l = Inside l.text l.initial.store l.initial.i l.store l.counted l.kept l.i l.weight l.clause l.start
 
-abbrev pub decreases-loop-counted : goal.decreases-loop-counted
-decreases-loop-counted l = length l.text - l.i
+abbrev pub decreases-clause : goal.decreases-clause
+decreases-clause l = length l.text - l.i
 
 abbrev pub invariant-text : goal.invariant-text
 invariant-text l = Between l.text l.fn.store l.store l.counted l.kept l.i
