@@ -1,5 +1,5 @@
 -- One turn of the walk over a derivation's bytes.
-use Rattle.std.proofs.Common.{ℕ, zero, suc, ◌+◌, ◌<◌, ◌≤◌, Bool, true, false, List, [], ◌∷◌, ◌++◌, ◌≡◌, refl, ap, sym, ◌∙◌, arith, add-one, leb-true, eqb, leb, length, get_or, take, drop, length-drop, drop_of_length-le, drop-cons, drop-drop}
+use Rattle.std.proofs.Common.{ℕ, zero, suc, ◌+◌, ◌<◌, ◌≤◌, Bool, true, false, List, [], ◌∷◌, ◌++◌, ◌≡◌, Some, None, refl, ap, sym, ◌∙◌, arith, add-one, leb-true, eqb, leb, length, get_or, take, drop, length-drop, drop_of_length-le, drop-cons, drop-drop}
 use Rattle.std.proofs.Math.Option.{Option, some, none}
 use Rattle.instance.specs.Clause.{Problem}
 use Rattle.instance.specs.Refusals.{staged}
@@ -11,11 +11,6 @@ use Rattle.calculus.specs.declared.Record.{Record}
 use Rattle.calculus.specs.declared.Record.TheVariants.{E, C, Q}
 use Rattle.derivation.specs.Bytes.{kind_e, kind_c, kind_q, number, body, whole_if, item_at, body_size, items_after, items}
 use Rattle.checker.specs.Decoding.{decoded_as}
-use Rattle.checker.specs.Walking.{Walk}
-use Rattle.checker.specs.Moves.{Moved}
-use Rattle.checker.specs.declared.frames.Level.{Level}
-use Rattle.checker.specs.declared.records.Decoded.TheVariants.{Whole, Broken}
-use Rattle.checker.specs.declared.steps.Move.TheVariants.{On, Last, Stop}
 
 -- ---- items
 -- after the rest of a body come the items behind it
@@ -31,16 +26,14 @@ record_size (E i) = refl
 record_size (C x) = refl
 record_size Q = refl
 
-decoded_whole : (i : Item) (at : ℕ) (r : Record) (next : ℕ) → decoded_as i at ≡ Whole r next → (i ≡ whole r) × (next ≡ at + size r)
-unfolding decoded_as
+decoded_whole : (i : Item) (at : ℕ) (r : Record) (next : ℕ) → decoded_as i at ≡ Some (r, next) → (i ≡ whole r) × (next ≡ at + size r)
 decoded_whole (whole q) at r next e =
-    let same : q ≡ r = cc in
-    let here : at + size q ≡ next = cc in
-    (ap whole same, sym here ∙ ap (λ x. at + size x) same)
-decoded_whole other at r next e = absurd (let z : ◌≡◌ {A = ℕ} 0 1 = cc in omega arith)
+    let p : ◌≡◌ {A = Record × ℕ} (q, at + size q) (r, next) = cc in
+    let same = ap (λ x. x.0) p in
+    (ap whole same, sym (ap (λ x. x.1) p) ∙ ap (λ x. at + size x) same)
+decoded_whole other at r next e = cc
 
-decoded_broken : (i : Item) (at : ℕ) → decoded_as i at ≡ Broken → i ≡ other
-unfolding decoded_as
+decoded_broken : (i : Item) (at : ℕ) → decoded_as i at ≡ None → i ≡ other
 decoded_broken (whole q) at e = cc
 decoded_broken other at e = refl
 
@@ -88,7 +81,7 @@ module _ (proof : List ℕ) (at : ℕ) where
     unfolding items items_after
     items_here = rw (drop-cons proof at 0 lt, add-one at) refl
 
-    module _ (r : Record) (next : ℕ) (e : decoded_as item at ≡ Whole r next) where
+    module _ (r : Record) (next : ℕ) (e : decoded_as item at ≡ Some (r, next)) where
       is_whole : item ≡ whole r
       is_whole = (decoded_whole item at r next e).0
 
@@ -115,21 +108,21 @@ module _ (I : Problem) (k : Claim) (proof : List ℕ) (at n : ℕ) where
   unfolding walk
   walk_end b bs le = rw (items_none proof at le) refl
 
-  pub walk_accepts : (bs : List Branch) → bs ≡ [] → at ≡ length proof → walk I k (items (drop at proof)) at n bs ≡ Accepted k n
+  pub walk_accepts : (bs : List Branch) → bs ≡ [] → length proof ≤ at → walk I k (items (drop at proof)) at n bs ≡ Accepted k n
   unfolding walk
-  walk_accepts bs e q = rw (e, items_none proof at (omega arith)) refl
+  walk_accepts bs e le = rw (e, items_none proof at le) refl
 
   module _ (lt : at < length proof) where
     pub walk_more : (bs : List Branch) → bs ≡ [] → walk I k (items (drop at proof)) at n bs ≡ Refused (staged 20 at)
     unfolding walk
     walk_more bs e = rw (e, items_here proof at lt) refl
 
-    pub walk_broken : (b : Branch) (bs : List Branch) → decoded_as (item proof at lt) at ≡ Broken
+    pub walk_broken : (b : Branch) (bs : List Branch) → decoded_as (item proof at lt) at ≡ None
         → walk I k (items (drop at proof)) at n (b ∷ bs) ≡ Refused (staged 14 at)
     unfolding walk
     walk_broken b bs e = rw (items_here proof at lt, decoded_broken (item proof at lt) at e) refl
 
-    module _ (r : Record) (next : ℕ) (e : decoded_as (item proof at lt) at ≡ Whole r next) (b : Branch) (bs : List Branch) where
+    module _ (r : Record) (next : ℕ) (e : decoded_as (item proof at lt) at ≡ Some (r, next)) (b : Branch) (bs : List Branch) where
       pub walk_stops : (number : ℕ) → step I k r b ≡ stop number → walk I k (items (drop at proof)) at n (b ∷ bs) ≡ Refused (staged number at)
       unfolding walk
       walk_stops number q = rw (items_whole proof at lt r next e, q, walk) refl
@@ -138,18 +131,3 @@ module _ (I : Problem) (k : Claim) (proof : List ℕ) (at n : ℕ) where
           → walk I k (items (drop at proof)) at n (b ∷ bs) ≡ walk I k (items (drop next proof)) next (n + 1) (new ++ bs)
       unfolding walk
       walk_goes new q = rw (items_whole proof at lt r next e, q, walk, ← next_is proof at lt r next e, add-one n) refl
-
--- ---- what a step's answer says of the calculus' step
-module _ (I : Problem) (store cells log f : List ℕ) (bs : List Branch) where
-  pub moved_stop : (number : ℕ) (s : Step) → Moved I store cells log f bs (Stop number) s → s ≡ stop number
-  moved_stop number (stop e) q = ap stop (sym q)
-  moved_stop number (go new) q = absurd q
-
-  pub moved_last : (s : Step) → Moved I store cells log f bs Last s → (new : List Branch) × (s ≡ go new) × (new ++ bs ≡ [])
-  moved_last (stop e) q = absurd q
-  moved_last (go new) q = (new, refl, q)
-
-  pub moved_on : (l : Level) (s : Step) → Moved I store cells log f bs (On l) s
-      → (new : List Branch) × (b : Branch) × (rest : List Branch) × (s ≡ go new) × (new ++ bs ≡ b ∷ rest) × Walk I store cells log f l.top l.depth b rest
-  moved_on l (stop e) q = absurd q
-  moved_on l (go new) (b, rest, e, w) = (new, b, rest, refl, e, w)
