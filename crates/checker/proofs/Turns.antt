@@ -18,7 +18,7 @@ use Rattle.checker.specs.declared.walk.Walk.{Walk}
 use Rattle.checker.specs.Decoding.{decoded_as}
 use Rattle.checker.specs.Walking.{Stands}
 use Rattle.checker.specs.Moves.{Moved, Steps}
-use Rattle.checker.proofs.Running.{walk_end, walk_accepts, walk_more, walk_broken, next_low, next_later, walk_stops, walk_goes}
+use Rattle.checker.proofs.Running.{next_later, walk_end, walk_accepts, walk_more, walk_broken, walk_stops, walk_goes}
 
 -- ---- what a step's answer says of the calculus' step
 module _ (I : Problem) (w : Walk) (bs : List Branch) where
@@ -59,7 +59,7 @@ module _ {claim : Claim} {proof : List ℕ} {from : ℕ} {first w : Walk} {at co
     pub answer_broken : None ≡ decoded_as (item_at (get_or proof at 0) (drop (at + 1) proof)) at → Answer claim proof from first (Err (staged 14 at))
     answer_broken d I b₀ bs₀ s₀ =
         let (b, bs, s, e) = r.left I b₀ bs₀ s₀ in
-        sym (walk_broken I claim proof at count lt b bs (sym d)) ∙ e
+        sym (walk_broken I claim proof at count lt b bs d) ∙ e
 
     module _ (q : Record) (next : ℕ) (d : Some (q, next) ≡ decoded_as (item_at (get_or proof at 0) (drop (at + 1) proof)) at) (w' : Walk) where
       abbrev Stepped : Result Step Fault → Type 0
@@ -68,27 +68,27 @@ module _ {claim : Claim} {proof : List ℕ} {from : ℕ} {first w : Walk} {at co
       pub answer_stop : (fault : Fault) → Stepped (Err fault) → Answer claim proof from first (Err (staged (numbered fault) at))
       answer_stop fault m I b₀ bs₀ s₀ =
           let (b, bs, s, e) = r.left I b₀ bs₀ s₀ in
-          sym (walk_stops I claim proof at count lt q next (sym d) b bs (numbered fault) (moved_stop I w' bs fault (step I claim q b) (m I b bs s))) ∙ e
+          sym (walk_stops I claim proof at count lt q next d b bs (numbered fault) (moved_stop I w' bs fault (step I claim q b) (m I b bs s))) ∙ e
 
       pub answer_accepted : Stepped (Ok AllClosed) → length proof ≤ next → Answer claim proof from first (Ok (count + 1))
       answer_accepted m le I b₀ bs₀ s₀ =
           let (b, bs, s, e) = r.left I b₀ bs₀ s₀ in
           let (new, g, none) = moved_last I w' bs (step I claim q b) (m I b bs s) in
-          sym (walk_goes I claim proof at count lt q next (sym d) b bs new g ∙ walk_accepts I claim proof next (count + 1) (new ++ bs) none le) ∙ e
+          sym (walk_goes I claim proof at count lt q next d b bs new g ∙ walk_accepts I claim proof next (count + 1) (new ++ bs) none le) ∙ e
 
       pub answer_more : Stepped (Ok AllClosed) → next < length proof → Answer claim proof from first (Err (staged 20 next))
       answer_more m low I b₀ bs₀ s₀ =
           let (b, bs, s, e) = r.left I b₀ bs₀ s₀ in
           let (new, g, none) = moved_last I w' bs (step I claim q b) (m I b bs s) in
-          sym (walk_goes I claim proof at count lt q next (sym d) b bs new g ∙ walk_more I claim proof next (count + 1) low (new ++ bs) none) ∙ e
+          sym (walk_goes I claim proof at count lt q next d b bs new g ∙ walk_more I claim proof next (count + 1) low (new ++ bs) none) ∙ e
 
       pub running_on : Stepped (Ok GoesOn) → Running claim proof from first w' next (count + 1)
       running_on m = record {
-        counted = omega (arith, r.counted, next_later proof at lt q next (sym d));
+        counted = omega (arith, r.counted, next_later proof at q next d);
         left = λ I b₀ bs₀ s₀.
             let (b, bs, s, e) = r.left I b₀ bs₀ s₀ in
             let (new, b', rest, g, o, s') = moved_on I w' bs (step I claim q b) (m I b bs s) in
-            (b', rest, s', ap (walk I claim (items (drop next proof)) next (count + 1)) (sym o) ∙ sym (walk_goes I claim proof at count lt q next (sym d) b bs new g) ∙ e);
+            (b', rest, s', ap (walk I claim (items (drop next proof)) next (count + 1)) (sym o) ∙ sym (walk_goes I claim proof at count lt q next d b bs new g) ∙ e);
       }
 
 -- ---- a step's answer with the place of its record

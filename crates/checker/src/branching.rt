@@ -19,8 +19,9 @@ impl Walk<'_, '_> {
             next: first + 1,
             height: self.branch.journal.top,
         });
-        self.branch
-            .gain(self.held.literal_at(first), self.held.weight_of(k));
+        let literal = self.held.literal_at(first);
+        let weight = self.held.weight_of(k);
+        self.branch.gain(literal, weight);
     }
 
     // Enters the next branch of the last frame, from the state that the extension left. A frame goes with its last branch.
@@ -29,18 +30,16 @@ impl Walk<'_, '_> {
         requires deep { 1 ≤ self.old.frames.depth }
         ensures { Turned self.old self.new }
     {
-        let Frame {
-            clause,
-            next,
-            height,
-        } = self.frames.last();
+        let frame = self.frames.last();
         let branch = &mut self.branch;
-        branch.journal.rewind(height);
-        branch.gain(self.held.literal_at(next), self.held.weight_of(clause));
-        if next + 1 == self.held.end_of(clause) {
+        branch.journal.rewind(frame.height);
+        let literal = self.held.literal_at(frame.next);
+        let weight = self.held.weight_of(frame.clause);
+        branch.gain(literal, weight);
+        if frame.next + 1 == self.held.end_of(frame.clause) {
             self.frames.pop();
         } else {
-            self.frames.advance(next + 1);
+            self.frames.advance(frame.next + 1);
         }
     }
 }

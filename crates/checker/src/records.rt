@@ -5,7 +5,7 @@ ghost use Rattle.checker.specs.Decoding.{decoded_as};
 use calculus::Record;
 
 // The whole record that stands at a place, and the place after it.
-#[tactic(auto, using(crate::proofs::Decodes::decoding), unfolding(derivation::specs::Bytes::item_at, derivation::specs::Bytes::body, derivation::specs::Bytes::whole_if, calculus::specs::Derivation::size))]
+#[tactic(auto, using(crate::proofs::Decodes::decoding))]
 pub fn decode(proof: &[u8], at: usize) -> Option<(Record, usize)>
     requires { at < length proof.now }
     ensures { result ≡ decoded_as (item_at (get_or proof.now at 0) (drop (at + 1) proof.now)) at }

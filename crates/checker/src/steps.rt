@@ -14,17 +14,17 @@ pub enum Step {
 }
 
 impl Walk<'_, '_> {
-    fn on_extend(&mut self, i: usize) -> Result<Step, Fault>
+    fn on_extend(&mut self, number: usize) -> Result<Step, Fault>
         requires { Standing self.old }
-        ensures { (claim : Claim) → Steps (λ I b. stepped I claim (Record.E i) b) self.old self.new result }
+        ensures { (claim : Claim) → Steps (λ I b. stepped I claim (Record.E number) b) self.old self.new result }
     {
         if self.branch.is_dead() {
             return Err(Fault::DeadBranch);
         }
-        if i == 0 || Instance::CLAUSES < i || !self.branch.can_extend(i - 1) {
+        if number == 0 || Instance::CLAUSES < number || !self.branch.can_extend(number - 1) {
             return Err(Fault::NotExtendable);
         }
-        self.extend(i - 1);
+        self.extend(number - 1);
         Ok(Step::GoesOn)
     }
 
@@ -62,7 +62,7 @@ impl Walk<'_, '_> {
         ensures { Steps (λ I b. stepped I claim «record» b) self.old self.new result }
     {
         match record {
-            Record::E(i) => self.on_extend(i),
+            Record::E(number) => self.on_extend(number),
             Record::C(x) => self.on_contradict(x),
             Record::Q => self.on_close(claim),
         }

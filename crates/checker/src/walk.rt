@@ -13,7 +13,7 @@ use crate::steps::Step;
 use branch::Branch;
 use instance::{Claim, Fault, Held, Stage};
 
-// The branch at work, and the frames of the others that are open.
+// The branch at work, and the frames of the other open branches.
 #[derive(Drop)]
 pub struct Walk<'h, 'a> {
     pub held: Held<'h>,
@@ -67,6 +67,7 @@ pub fn after_claim(
             depth: 0,
         },
     };
+    // The walk stays lent as long as a call at the end of the body.
     let records = walk.run(proof, from, claim);
     records
 }

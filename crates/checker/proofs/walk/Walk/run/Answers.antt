@@ -18,7 +18,7 @@ returns-in_err-map_err c =
     rw (p.1, p.2, told) (answer_stop c.loop-at.invariant c.loop-at-test.true _ _ c.in-Some.ensures c.step.new.self f (rw was at c.step.ensures))
 
 pub loop-at-smaller : goal.loop-at-smaller
-loop-at-smaller c = omega (arith, next_later c.args.proof.now c.loop-at.at c.loop-at-test.true _ _ (sym c.in-Some.ensures))
+loop-at-smaller c = omega (arith, next_later c.args.proof.now c.loop-at.at _ _ c.in-Some.ensures)
 
 pub loop-at-preserved : goal.loop-at-preserved
 loop-at-preserved c =
