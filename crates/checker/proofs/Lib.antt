@@ -1,6 +1,7 @@
-pub mod Stacks
-pub mod Walks
 pub mod Decodes
+pub mod Stacks
+pub mod Entering
+pub mod Walks
 pub mod Stepping
 pub mod Running
 pub mod Turns

@@ -1,23 +1,24 @@
 -- A record on the branch at work, by the tests of the code.
-use Rattle.std.proofs.Common.{ℕ, suc, ◌-◌, ◌<◌, ◌≤◌, true, false, List, [], ◌≡◌, refl, ap, ◌∙◌, arith, le-leb, length}
+use Rattle.std.proofs.Common.{ℕ, suc, ◌-◌, ◌<◌, ◌≤◌, true, false, List, [], ◌≡◌, Result, Ok, Err, refl, ap, ◌∙◌, arith}
 use Rattle.std.proofs.Math.Option.{Option, some, none}
-use borrow.Author.Tests.{lt-leb}
-use Rattle.instance.specs.Memory.{log_size, frames_size}
+use Rattle.std.proofs.lemmas.Bool.{le-leb, lt-leb}
 use Rattle.instance.specs.Clause.{Problem}
-use Rattle.instance.specs.Store.{Stored}
+use Rattle.instance.specs.Faults.{numbered}
+use Rattle.instance.specs.Store.{Given}
 use Rattle.instance.specs.declared.answers.Claim.{Claim}
-use Rattle.journal.specs.Undo.{Later}
+use Rattle.instance.specs.declared.faults.Fault.{Fault}
 use Rattle.journal.specs.Theorems.Stores.{later_places}
 use Rattle.calculus.specs.Branch.{Branch, contradict}
 use Rattle.calculus.specs.Derivation.{Step, stop, go, closable, closing, extending, settled, contradicting, step}
 use Rattle.calculus.specs.declared.Record.TheVariants.{E, C, Q}
+use Rattle.branch.specs.declared.Branch as code
 use Rattle.branch.specs.Works.{Works}
 use Rattle.branch.specs.Contradictions.{Clashed}
-use Rattle.branch.specs.declared.contradiction.Clash.TheVariants.{Done, Nothing}
+use Rattle.checker.specs.declared.walk.Walk.{Walk}
+use Rattle.checker.specs.declared.steps.Step.TheVariants.{GoesOn}
 use Rattle.checker.specs.Frames.{Stack}
-use Rattle.checker.specs.Walking.{Walk}
+use Rattle.checker.specs.Walking.{Stands}
 use Rattle.checker.specs.Moves.{Moved}
-use Rattle.checker.specs.declared.steps.Move.TheVariants.{On, Stop}
 use Rattle.checker.proofs.Stacks.{stack_later}
 
 -- ---- the calculus' step
@@ -59,51 +60,48 @@ module _ (I : Problem) (claim : Claim) (b : Branch) where
   close_can e = rw (e, closing)
 
 -- ---- the memory
--- at the root no other branch is open
-pub walk_root : (I : Problem) (store cells log f : List ℕ) (b : Branch) → Stored store I → Works I.clauses cells 0 0 0 b
-    → log_size ≤ length log → frames_size ≤ length f → Walk I store cells log f 0 0 b []
-unfolding Stack
-walk_root I store cells log f b stored works lo fr = record {
-  stored = stored;
-  works = works;
-  log_suffices = lo;
-  frames_suffice = fr;
-  places = λ e low hi. absurd (omega arith);
-  stack = refl;
-}
+module _ {I : Problem} (w : Walk) {b : Branch} {bs : List Branch} (s : Stands I w b bs) where
+  module _ (branch : code.Branch) where
+    abbrev After : Walk
+    After = record { held = w.held; branch = branch; frames = w.frames }
 
-module _ (I : Problem) (store cells log f : List ℕ) (top depth : ℕ) (b : Branch) (bs : List Branch) (w : Walk I store cells log f top depth b bs) where
-  walk_later : (cells' log' : List ℕ) (top' : ℕ) (b' : Branch) → Works I.clauses cells' top' depth 0 b' → Later cells log top cells' log' top'
-      → Walk I store cells' log' f top' depth b' bs
-  walk_later cells' log' top' b' works later = record {
-    stored = w.stored;
-    works = works;
-    log_suffices = rw later.same_log w.log_suffices;
-    frames_suffice = w.frames_suffice;
-    places = rw later.same_cells (later_places later 0 w.places);
-    stack = stack_later I store depth f bs later w.stack;
-  }
+    abbrev Clashes : Result Unit Fault → Option Branch → Type 0
+    Clashes r o =
+        Clashed I.clauses w.frames.depth w.branch.journal.cells.now w.branch.journal.log.now w.branch.journal.top
+        branch.journal.cells.now branch.journal.log.now branch.journal.top r o
 
-  abbrev After : Option Branch → List ℕ → List ℕ → ℕ → Type 0
-  After o cells' log' t = Moved I store cells' log' f bs (On (record { top = t; depth = depth })) (settled o)
+    pub clash_moves : (o : Option Branch) (done : Unit) → Clashes (Ok done) o → Moved I After bs (Ok GoesOn) (settled o)
+    unfolding settled
+    clash_moves (some b') done (works, later) = (
+      b',
+      bs,
+      refl,
+      record {
+        given = s.given;
+        works = works;
+        places = rw later.same_cells (later_places later 0 s.places);
+        stack = stack_later I w.held.store.now w.frames.depth w.frames.words.now bs later s.stack;
+      },
+    )
+    clash_moves none done e = absurd e
 
-  pub clash_moves : (o : Option Branch) (cells' log' : List ℕ) (t : ℕ) → Clashed I.clauses depth cells log top cells' log' (Done t) o → After o cells' log' t
-  unfolding settled
-  clash_moves (some b') cells' log' t (works, later) = (b', bs, refl, walk_later cells' log' t b' works later)
-  clash_moves none cells' log' t e = absurd e
-
-  pub clash_stops : (o : Option Branch) (cells' log' : List ℕ) → Clashed I.clauses depth cells log top cells' log' Nothing o
-      → Moved I store cells' log' f bs (Stop 16) (settled o)
-  unfolding settled
-  clash_stops none cells' log' e = refl
-  clash_stops (some b') cells' log' e = absurd e
+    pub clash_stops : (o : Option Branch) (fault : Fault) → Clashes (Err fault) o → Moved I After bs (Err fault) (settled o)
+    unfolding settled
+    clash_stops none fault (e, cells, log, top) = ap numbered e
+    clash_stops (some b') fault e = absurd e
 
   -- without a frame there is no other branch
-  pub walk_last : depth ≡ 0 → bs ≡ []
+  pub walk_last : w.frames.depth ≡ 0 → bs ≡ []
   unfolding Stack
-  walk_last e = rw e at w.stack
+  walk_last e = rw e at s.stack
 
-  pub walk_deep : (depth ≡ 0 → ⊥) → Walk I store cells log f top (suc (depth - 1)) b bs
-  walk_deep n =
-      let e : depth ≡ suc (depth - 1) = omega (arith, n) in
-      rw e at w
+-- at the root no other branch is open
+pub stands_first : (I : Problem) (w : Walk) (b : Branch) → Given w.held.store.now w.held.counts.variables w.held.counts.clauses I
+    → Works I.clauses w.branch.journal.cells.now 0 0 0 b → w.branch.journal.top ≡ 0 → w.frames.depth ≡ 0 → Stands I w b []
+unfolding Stack
+stands_first I w b given works top depth = record {
+  given = given;
+  works = rw (top, depth) works;
+  places = λ e low hi. absurd (omega arith);
+  stack = rw depth refl;
+}

@@ -1,15 +1,15 @@
-use Rattle.std.proofs.Common.{[]}
+use Rattle.std.proofs.Common.{[], refl}
+use Rattle.instance.specs.Theorems.Held.{given_in}
 use Rattle.calculus.specs.Branch.{root}
-use Rattle.checker.proofs.Stepping.{walk_root}
+use Rattle.checker.proofs.Stepping.{stands_first}
 use Rattle.checker.proofs.walk.after_claim.Goals as goal
 
-pub run-requires : goal.run-requires
-run-requires c =
-    let (I, stored, n, k) = c.requires.stored in
-    let (size, lo, fr) = c.requires.enough_memory in
-    (I, root I.clauses, [], n, walk_root I c.args.store.now _ _ _ (root I.clauses) stored (c.root.ensures I stored k) lo fr)
+pub run-records-requires : goal.run-records-requires
+run-records-requires c =
+    let held = c.args.held.now in
+    let given = given_in held.store.now held.counts held.holds in
+    (_, root _, [], stands_first _ _ _ given (c.root.ensures.works _ given.stored given.clauses) c.root.ensures.height refl)
 
 pub returns : goal.returns
-returns c I stored n k =
-    let (size, lo, fr) = c.requires.enough_memory in
-    c.run.ensures I (root I.clauses) [] n (walk_root I c.args.store.now _ _ _ (root I.clauses) stored (c.root.ensures I stored k) lo fr)
+returns c I given =
+    c.run-records.ensures I (root I.clauses) [] (stands_first I _ _ given (c.root.ensures.works I given.stored given.clauses) c.root.ensures.height refl)
