@@ -1,6 +1,7 @@
 -- The examples of 01 ("Examples to prove"), in its order and with its bytes and numbers. That they hold is proved in
 -- proofs/Examples.antt.
-use Rattle.std.specs.Prelude.{ℕ, List, [], ◌∷◌, ◌++◌, String}
+use Rattle.std.specs.Prelude.{ℕ, List, [], ◌∷◌, ◌++◌}
+use Prim.Native.String.{String}
 use Rattle.instance.specs.Answers.{Told, values, refused, check_told}
 use Rattle.instance.specs.Clause.{opposite, tautology, clause_at}
 use Rattle.instance.specs.declared.answers.Aim.{Aim}

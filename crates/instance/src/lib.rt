@@ -5,6 +5,7 @@
 mod answers;
 mod faults;
 mod held;
+mod lending;
 mod memory;
 mod refusals;
 mod weights;
@@ -13,6 +14,7 @@ mod workspaces;
 pub use answers::{Aim, Checked, Claim, Surveyed, Valued, Worth, Written};
 pub use faults::Fault;
 pub use held::{FLAGS_AT, Held, LITERALS_AT, WEIGHTS_AT};
+pub use lending::over_store;
 pub use memory::clear;
 pub use refusals::{Stage, refusal};
 pub use weights::Weight;

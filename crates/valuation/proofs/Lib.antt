@@ -1,4 +1,3 @@
 pub mod Literals
-pub mod Stores
 pub mod Tallies
 pub mod Values

@@ -5,9 +5,8 @@ ghost use Rattle.instance.specs.declared.answers.Valued.{Valued};
 ghost use Rattle.valuation.specs.Better.{beats, chosen, better_of, Handed, BetterAnswers};
 ghost use Rattle.valuation.specs.declared.choosing.Choice.TheVariants.{Neither};
 
-use crate::lending::over_store;
 use crate::valuing::valued;
-use instance::{Held, Stage, Worth};
+use instance::{Held, Stage, Worth, over_store};
 use reader::read;
 
 // Which of the two lent assignments is handed back; neither stands for the empty part at the start of the first.

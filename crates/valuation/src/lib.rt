@@ -3,7 +3,6 @@
 // What assignments are worth, and which of two is the cheaper.
 mod choosing;
 mod falsify;
-mod lending;
 mod tally;
 mod valuing;
 

@@ -5,9 +5,8 @@ ghost use Rattle.instance.specs.Memory.{store_size};
 ghost use Rattle.instance.specs.Store.{Given};
 ghost use Rattle.valuation.specs.Value.{valued as valuedOf, value_of, ValueAnswers};
 
-use crate::lending::over_store;
 use crate::tally::tallied;
-use instance::{Fault, Held, Stage, Valued, Worth};
+use instance::{Fault, Held, Stage, Valued, Worth, over_store};
 use reader::read;
 
 // What an assignment is worth to the instance in the store.

@@ -1,7 +1,7 @@
 -- The part that the work's choice names, or neither where the store is too small.
 use Rattle.std.proofs.Common.{rules, ◌≡◌, ap, ◌∙◌}
 use Rattle.std.specs.Result.{result_unwrap_or}
-use Rattle.valuation.proofs.Stores.{on_size}
+use Rattle.instance.specs.Theorems.Memory.{on_size}
 use Rattle.valuation.specs.Better.{chosen_with}
 use Rattle.valuation.specs.declared.choosing.Choice.TheVariants.{Neither}
 use Rattle.valuation.proofs.choosing.better.Goals as goal

@@ -1,7 +1,7 @@
 -- The answer of the work, or the refusal of too small a store.
 use Rattle.std.proofs.Common.{rules, ap, ◌∙◌}
 use Rattle.instance.specs.Answers.{valued as as_answer}
-use Rattle.valuation.proofs.Stores.{on_size}
+use Rattle.instance.specs.Theorems.Memory.{on_size}
 use Rattle.valuation.proofs.valuing.value.Goals as goal
 
 pub returns : goal.returns

@@ -3,7 +3,7 @@ use Rattle.std.proofs.Common.{rules, ◌≤◌, length, take, refl, ◌∙◌, a
 use Rattle.std.proofs.lemmas.List.{drop_at, length-take-le}
 use Rattle.instance.specs.Memory.{store_size, returned}
 use Rattle.instance.specs.Theorems.Memory.{ample_yes, ample_no, cleared_beyond}
-use Rattle.valuation.proofs.lending.over_store.Goals as goal
+use Rattle.instance.proofs.lending.over_store.Goals as goal
 
 pub returns-then-store-lt-STORE-clause-after : goal.returns-then-store-lt-STORE-clause-after
 unfolding returned

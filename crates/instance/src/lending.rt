@@ -4,7 +4,10 @@ ghost use Rattle.std.specs.Fn.{FnOnceReturnsAtMut};
 ghost use Rattle.instance.specs.Memory.{store_size, ample, returned};
 ghost use Rattle.instance.specs.Refusals.{staged};
 
-use instance::{Fault, STORE, Stage, clear};
+use crate::faults::Fault;
+use crate::memory::clear;
+use crate::refusals::Stage;
+use crate::workspaces::STORE;
 
 // Works over the store, and leaves it as every question must; too small a store is a refusal.
 pub fn over_store<T, F: FnOnce(&mut [u64]) -> Result<T, Stage>>(
