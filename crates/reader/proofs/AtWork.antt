@@ -25,7 +25,7 @@ use Rattle.instance.specs.Theorems.Codes.{weight_soft}
 use Rattle.instance.specs.Theorems.Weights.{soft_meant}
 use Rattle.instance.specs.declared.weights.Weight as code
 use Rattle.instance.specs.Theorems.Every.{every_snoc, every_map}
-use Rattle.reader.specs.Keeping.{codes_from, literals_from}
+use Rattle.reader.specs.Drafts.{codes_from, literals_from}
 use Rattle.reader.proofs.Theorems.Limits.{Opens}
 use Rattle.reader.proofs.Rows.{Coded, coded_more, Rows, rows_more, part_kept, rows_set}
 
@@ -43,7 +43,7 @@ pub record Row (store : List ℕ) (n : ℕ) (cs : List Clause) (start kept : ℕ
 weight_back : (w : code.Weight) → Weighty (meant w) → weight_of (coded w) ≡ meant w
 weight_back w h = ap weight_of (sym (soft_meant w)) ∙ weight_soft (meant w) h
 
-pub row_begun : {store : List ℕ} {n : ℕ} {cs : List Clause} {kept : ℕ} → Rows store n cs kept
+row_begun : {store : List ℕ} {n : ℕ} {cs : List Clause} {kept : ℕ} → Rows store n cs kept
     → (w : code.Weight) → Opens cs (meant w)
     → Row (set (set store (weights_at + length cs) (coded w)) (flags_at + length cs) 0) n cs kept kept (meant w) 0 []
 row_begun {store} {n} {cs} {kept} r w o =
@@ -62,6 +62,12 @@ row_begun {store} {n} {cs} {kept} r w o =
       codes = rw none tt;
       literals = rw none refl;
     }
+
+pub row_opens : {store : List ℕ} {n : ℕ} {cs : List Clause} {kept : ℕ} → Rows store n cs kept
+    → (w : code.Weight) → Opens cs (meant w) → {k start' kept' : ℕ} {store' : List ℕ} → k ≡ length cs
+    → store' ≡ set (set store (weights_at + k) (coded w)) (flags_at + k) 0 → start' ≡ kept → kept' ≡ kept
+    → Row store' n cs start' kept' (meant w) 0 []
+row_opens r w o e f g h = rw (f, e, g, h) (row_begun r w o)
 
 -- one more code at the end
 codes_grown : (store : List ℕ) (start kept code : ℕ) → start ≤ kept → literals_at + kept < length store
@@ -155,8 +161,8 @@ module _ {store : List ℕ} {n : ℕ} {cs : List Clause} {start kept : ℕ} {w :
   abbrev Flagged : ℕ → Type 0
   Flagged k = get_or done (flags_at + k) 0 ≡ flag_of (tautology (literals_in done k))
 
-  pub row_closed : Rows done n (cs ++ (closed ∷ [])) kept
-  row_closed =
+  row_done : Rows done n (cs ++ (closed ∷ [])) kept
+  row_done =
       let laid = done_rows.laid in
       let long : length (cs ++ (closed ∷ [])) ≡ L + 1 = length-append cs (closed ∷ []) in
       let order : start_in done L ≤ end_in done L = rw (done_end, done_rows.next) r.order in
@@ -172,3 +178,7 @@ module _ {store : List ℕ} {n : ℕ} {cs : List Clause} {start kept : ℕ} {w :
         });
         next = rw (long, add-one) done_end;
       }
+
+  pub row_closed : {k kept' : ℕ} {store' : List ℕ} → k ≡ L → store' ≡ set store k kept → kept' ≡ kept
+      → Rows store' n (cs ++ (closed ∷ [])) kept'
+  row_closed e f g = rw (f, e, g) row_done
