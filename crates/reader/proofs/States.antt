@@ -54,17 +54,16 @@ pub record Between (text before : List ℕ) (d : Draft) (i : ℕ) : Type 0 where
   pub lent : Lent before d.store.now
   pub goes : read_of text ≡ on_text (between I) (from text i)
 
-pub begins : (text : List ℕ) (d : Draft)
-    → (d.counts.variables ≡ 0) × ((d.counts.clauses ≡ 0) × ((d.counts.written ≡ 0) × (d.counts.total ≡ 0)))
-    → d.kept ≡ 0 → Between text d.store.now d 0
-unfolding read_of nothing counts total_of
-begins text d e none = record {
+pub begins : {text before : List ℕ} {d : Draft} → d.store.now ≡ before → d.counts ≡ counts nothing → d.kept ≡ 0
+    → Between text before d 0
+unfolding read_of nothing
+begins {text} {d = d} s e none = record {
   I = nothing;
-  counts_to = let (a, b) = e in let (f, g) = b in let (h, k) = g in rw (a, f, h, k) refl;
+  counts_to = e;
   sound = nothing_sound;
   rows = rw none (rows_none d.store.now d.room);
   here = omega arith;
-  lent = lent_same d.store.now;
+  lent = subst (λ (b : List ℕ). Lent b d.store.now) s (lent_same d.store.now);
   goes = text_lines nothing (lines 0 text);
 }
 

@@ -12,12 +12,7 @@ pub fn read(text: &[u8], store: &mut [u64]) -> Result<Instance, Stage>
     requires { store_size ≤ length store.old }
     ensures { ReadAnswers text.now store.old result store.new }
 {
-    let mut draft = Draft {
-        store,
-        counts: Instance::default(),
-        kept: 0,
-        start: 0,
-    };
+    let mut draft = Draft::new(store);
     let mut i = 0;
     'text: loop {
         let token = next_token(text, i);

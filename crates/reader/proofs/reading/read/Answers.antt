@@ -8,7 +8,7 @@ use Rattle.reader.proofs.reading.read.Goals.{After-first_word, After-later_word,
 
 -- ---- between lines
 pub text-init : goal.text-init
-text-init c = record { lent = refl; between = begins _ _ c.default.ensures refl }
+text-init c = record { lent = refl; between = begins c.new-draft.ensures.store c.new-draft.ensures.counts c.new-draft.ensures.kept }
 
 pub text-preserved-in-empty-2 : goal.text-preserved-in-empty-2
 text-preserved-in-empty-2 c = record {
@@ -44,11 +44,11 @@ front c = record {
 pub first_word-requires : goal.first_word-requires
 first_word-requires c = light c.text.invariant.between
 
-pub begin-requires-clause-few : goal.begin-requires-clause-few
-begin-requires-clause-few c = (clause_fits c.text.invariant.between (front (goal.at.begin-requires-clause-few c).After-first_word) c.in-Ok.is).0
+pub begin-requires-clause-clause_left : goal.begin-requires-clause-clause_left
+begin-requires-clause-clause_left c = (clause_fits c.text.invariant.between (front (goal.at.begin-requires-clause-clause_left c).After-first_word) c.in-Ok.is).0
 
-pub begin-requires-clause-light : goal.begin-requires-clause-light
-begin-requires-clause-light c = (clause_fits c.text.invariant.between (front (goal.at.begin-requires-clause-light c).After-first_word) c.in-Ok.is).1
+pub begin-requires-clause-weight_left : goal.begin-requires-clause-weight_left
+begin-requires-clause-weight_left c = (clause_fits c.text.invariant.between (front (goal.at.begin-requires-clause-weight_left c).After-first_word) c.in-Ok.is).1
 
 pub clause-init : goal.clause-init
 clause-init c = record {
@@ -76,12 +76,12 @@ following c = record {
 taken : (c : In-Ok-Some) → c.later_word.result ≡ Ok (Some c.in-Ok-Some.code)
 taken c = cc
 
-pub keep-requires-clause-few : goal.keep-requires-clause-few
-keep-requires-clause-few c = inside_fits c.clause.invariant.inside
+pub keep-requires-clause-clause_left : goal.keep-requires-clause-clause_left
+keep-requires-clause-clause_left c = inside_fits c.clause.invariant.inside
 
-pub keep-requires-clause-fewer : goal.keep-requires-clause-fewer
-keep-requires-clause-fewer c =
-    word_fits c.clause.invariant.inside (following (goal.at.keep-requires-clause-fewer c).After-later_word) (taken (goal.at.keep-requires-clause-fewer c).In-Ok-Some)
+pub keep-requires-clause-literal_left : goal.keep-requires-clause-literal_left
+keep-requires-clause-literal_left c =
+    word_fits c.clause.invariant.inside (following (goal.at.keep-requires-clause-literal_left c).After-later_word) (taken (goal.at.keep-requires-clause-literal_left c).In-Ok-Some)
 
 pub clause-preserved : goal.clause-preserved
 clause-preserved c = record {
