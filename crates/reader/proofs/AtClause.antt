@@ -15,7 +15,7 @@ use Rattle.instance.specs.declared.Instance.{Instance}
 use Rattle.instance.specs.declared.faults.Fault.{Fault}
 use Rattle.reader.specs.declared.drafts.Draft.{Draft}
 use Rattle.reader.specs.Words.{Later, later_word}
-use Rattle.reader.specs.Reading.{refused, with_literal, with_clause, ended, clause_from, line_read, read_of}
+use Rattle.reader.specs.Reading.{refused, with_literal, with_clause, ended, clause_from, line_read, lines_read, read_of}
 use Rattle.reader.specs.Survey.{counts}
 use Rattle.reader.specs.Spans.{TokenAt}
 use Rattle.reader.specs.Said.{word_says}
@@ -23,7 +23,7 @@ use Rattle.reader.specs.Drafts.{Keeps, Closes, literals_from, Kept, again, oppos
 use Rattle.reader.proofs.Theorems.Limits.{Taken, later_taken, open_literal, open_clause}
 use Rattle.reader.proofs.AtWork.{Row, row_more, row_flagged, row_coded, row_closed}
 use Rattle.reader.proofs.Lexing.{from, from_blanks}
-use Rattle.reader.proofs.Modes.{between, inside, after, on_text, token_goes, token_stops, line_stops, line_goes}
+use Rattle.reader.proofs.Modes.{between, inside, after, on_text, text_lines, token_goes, token_stops, line_stops, line_goes}
 use Rattle.reader.proofs.States.{Lent, lent_set, Between, Inside}
 
 -- ---- a literal is kept
@@ -170,5 +170,6 @@ module _ {text before : List ℕ} {i₀ : ℕ} {d : Draft} {i : ℕ} (a : Inside
           rows = row_closed a.row few (omega (arith, d.shorter, d.many)) number c.store c.kept;
           here = omega (arith, u.within);
           lent = rw c.store (lent_set a.lent d.counts.clauses d.kept (omega (arith, inside_fits)));
-          goes = word_ends e ∙ line_goes u (after done) none (between done) refl ∙ ap (on_text (between done)) (from_blanks u);
+          goes = word_ends e ∙ line_goes u (after done) none (between done) refl
+              ∙ sym (text_lines done _) ∙ ap (lines_read done) (from_blanks u);
         }

@@ -17,7 +17,7 @@ use Rattle.instance.specs.declared.faults.Fault.TheVariants.{VariableTooLarge}
 use Rattle.reader.specs.Numbers.{zero_digit, decimal}
 use Rattle.reader.specs.Words.{minus, alone, signed, literal_spelled, Later, ends, holds, bad_later, later_word}
 use Rattle.reader.specs.Said.{number_of}
-use Rattle.reader.proofs.Alone.{not_alone}
+use Rattle.reader.proofs.Bytes.{not_alone}
 use Rattle.reader.proofs.Digits.{on_number, AtMost, number_most}
 
 -- ---- a literal, by its variable

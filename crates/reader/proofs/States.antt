@@ -4,7 +4,7 @@ use Rattle.std.specs.Prelude.{ℕ, ◌+◌, ◌<◌, ◌≤◌, List, ◌≡◌,
 use Rattle.std.proofs.Common.{ap, subst, ◌∙◌, arith, length-set}
 use Rattle.std.proofs.lemmas.List.{drop-set-lt}
 use Rattle.instance.specs.Limits.{most_clauses}
-use Rattle.instance.specs.Clause.{Literal, Problem, tautology, total_of}
+use Rattle.instance.specs.Clause.{Literal, Problem, tautology}
 use Rattle.instance.specs.Memory.{store_size}
 use Rattle.instance.specs.Refusals.{staged}
 use Rattle.instance.specs.Store.{weights_at, flags_at, flag_of, Stored}
@@ -13,8 +13,7 @@ use Rattle.instance.specs.declared.Instance.{Instance}
 use Rattle.instance.specs.declared.answers.Surveyed.{Surveyed}
 use Rattle.instance.specs.declared.refusals.Stage.{Stage}
 use Rattle.instance.specs.declared.weights.Weight.{Weight}
-use Rattle.reader.specs.Lines.{lines}
-use Rattle.reader.specs.Reading.{read, refused, nothing, read_of}
+use Rattle.reader.specs.Reading.{read, refused, nothing, lines_read, read_of}
 use Rattle.reader.specs.Survey.{counts, survey_of}
 use Rattle.reader.specs.Promise.{ReadAnswers}
 use Rattle.reader.specs.declared.drafts.Draft.{Draft}
@@ -22,7 +21,7 @@ use Rattle.reader.proofs.Theorems.Limits.{Sound, Open, nothing_sound}
 use Rattle.reader.proofs.Rows.{Rows, rows_none}
 use Rattle.reader.proofs.AtWork.{Row}
 use Rattle.reader.proofs.Lexing.{from}
-use Rattle.reader.proofs.Modes.{between, inside, on_text, text_lines}
+use Rattle.reader.proofs.Modes.{inside, on_text}
 
 -- ---- the lent store is the caller's beyond its constant
 pub record Lent (before store : List ℕ) : Type 0 where
@@ -52,7 +51,7 @@ pub record Between (text before : List ℕ) (d : Draft) (i : ℕ) : Type 0 where
   pub rows : Rows d.store.now I.variables I.clauses d.kept
   pub here : i ≤ length text
   pub lent : Lent before d.store.now
-  pub goes : read_of text ≡ on_text (between I) (from text i)
+  pub goes : read_of text ≡ lines_read I (from text i)
 
 pub begins : {text before : List ℕ} {d : Draft} → d.store.now ≡ before → d.counts ≡ counts nothing → d.kept ≡ 0
     → Between text before d 0
@@ -64,7 +63,7 @@ begins {text} {d = d} s e none = record {
   rows = rw none (rows_none d.store.now d.room);
   here = omega arith;
   lent = subst (λ (b : List ℕ). Lent b d.store.now) s (lent_same d.store.now);
-  goes = text_lines nothing (lines 0 text);
+  goes = refl;
 }
 
 -- ---- inside a clause: beside the instance I, the literals ls of a clause of some weight are read

@@ -3,7 +3,7 @@ ghost use Rattle.instance.specs.Memory.{store_size};
 ghost use Rattle.reader.specs.Promise.{ReadAnswers};
 
 use crate::drafts::Draft;
-use crate::tokens::{next_token, past_line};
+use crate::tokens::{next_line, next_token};
 use crate::words::{first_word, later_word};
 use instance::{Fault, Instance, Stage};
 
@@ -15,25 +15,16 @@ pub fn read(text: &[u8], store: &mut [u64]) -> Result<Instance, Stage>
     let mut draft = Draft::new(store);
     let mut i = 0;
     'text: loop {
-        let token = next_token(text, i);
-        match token.bytes {
-            [] if token.place == text.len() => break 'text Ok(draft.counts),
-            [] => {
-                i = token.place + 1;
-                continue 'text;
-            }
-            [b'c', ..] => {
-                i = past_line(text, token.end());
-                continue 'text;
-            }
-            _ => {}
+        let first = next_line(text, i);
+        if first.bytes.is_empty() {
+            break 'text Ok(draft.counts);
         }
-        let weight = match first_word(token.bytes, draft.counts.clauses, draft.counts.total) {
+        let weight = match first_word(first.bytes, draft.counts.clauses, draft.counts.total) {
             Ok(weight) => weight,
-            Err(fault) => break 'text Err(fault.at(token.place)),
+            Err(fault) => break 'text Err(fault.at(first.place)),
         };
         draft.begin(weight);
-        i = token.end();
+        i = first.end();
         'clause: loop {
             let token = next_token(text, i);
             if token.bytes.is_empty() {

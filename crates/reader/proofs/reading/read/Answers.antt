@@ -1,7 +1,7 @@
 use Rattle.std.proofs.Common.{Some, Ok, ◌≡◌, refl, ◌∙◌, arith, rules}
 use Rattle.std.proofs.lemmas.Bool.Decides.{nat_tests}
 use Rattle.reader.proofs.States.{begins, refuses, given_back}
-use Rattle.reader.proofs.AtLine.{Front, light, empty_line_lem, text_ends, comment_line, first_stops, clause_fits, clause_opens}
+use Rattle.reader.proofs.AtLine.{Front, light, text_ends, first_stops, clause_fits, clause_opens}
 use Rattle.reader.proofs.AtClause.{Following, inside_fits, no_zero, word_stops, word_fits, clause_grows, more_stops, clause_closes}
 use Rattle.reader.proofs.reading.read.Goals as goal
 use Rattle.reader.proofs.reading.read.Goals.{After-first_word, After-later_word, In-Ok-Some}
@@ -10,36 +10,15 @@ use Rattle.reader.proofs.reading.read.Goals.{After-first_word, After-later_word,
 pub text-init : goal.text-init
 text-init c = record { lent = refl; between = begins c.new-draft.ensures.store c.new-draft.ensures.counts c.new-draft.ensures.kept }
 
-pub text-preserved-in-empty-2 : goal.text-preserved-in-empty-2
-text-preserved-in-empty-2 c = record {
-  lent = c.text.invariant.lent;
-  between =
-      empty_line_lem c.text.invariant.between c.next_token-token.ensures (omega arith)
-      (omega (arith, c.next_token-token.ensures.within, c.if-token-text.false));
-}
-
-pub text-preserved-in-99 : goal.text-preserved-in-99
-text-preserved-in-99 c = record {
-  lent = c.text.invariant.lent;
-  between =
-      comment_line c.text.invariant.between c.next_token-token.ensures (omega arith) (omega arith) _
-      (rw c.end.ensures at c.past_line-i.ensures);
-}
-
-pub returns-in-empty : goal.returns-in-empty
-returns-in-empty c =
-    let same = c.text.invariant.lent in
-    given_back (search rules) (text_ends c.text.invariant.between c.next_token-token.ensures (omega arith))
-
 -- a line's first token, and what it says
 front : (c : After-first_word)
-    → Front c.args.text.now c.text.draft.counts c.text.i c.next_token-token.result.place c.next_token-token.result.bytes.now c.first_word.result
-front c = record {
-  token = c.next_token-token.ensures;
-  some = omega arith;
-  plain = λ e. omega arith;
-  says = c.first_word.ensures;
-}
+    → Front c.args.text.now c.text.draft.counts c.text.i c.next_line-first.result.place c.next_line-first.result.bytes.now c.first_word.result
+front c = record { line = c.next_line-first.ensures; some = grind (arith, nat_tests); says = c.first_word.ensures }
+
+pub returns-then-is_empty : goal.returns-then-is_empty
+returns-then-is_empty c =
+    let same = c.text.invariant.lent in
+    given_back (search rules) (text_ends c.text.invariant.between c.next_line-first.ensures (grind (arith, nat_tests)))
 
 pub first_word-requires : goal.first_word-requires
 first_word-requires c = light c.text.invariant.between
@@ -66,9 +45,9 @@ returns-in-Err c =
 -- ---- inside a clause
 -- a later token, and what it says
 following : (c : After-later_word)
-    → Following c.args.text.now c.clause.draft.counts.written c.clause.i c.next_token-token-in-clause.result.place c.next_token-token-in-clause.result.bytes.now c.later_word.result
+    → Following c.args.text.now c.clause.draft.counts.written c.clause.i c.next_token-token.result.place c.next_token-token.result.bytes.now c.later_word.result
 following c = record {
-  token = c.next_token-token-in-clause.ensures;
+  token = c.next_token-token.ensures;
   some = grind (arith, nat_tests);
   says = c.later_word.ensures;
 }
@@ -91,12 +70,12 @@ clause-preserved c = record {
       (clause_grows c.clause.invariant.inside (following (goal.at.clause-preserved c).After-later_word) (taken (goal.at.clause-preserved c).In-Ok-Some) (rw c.in-Ok-Some.code-is at c.keep.ensures));
 }
 
-pub returns-then-is_empty : goal.returns-then-is_empty
-returns-then-is_empty c =
+pub returns-then-is_empty-2 : goal.returns-then-is_empty-2
+returns-then-is_empty-2 c =
     let a = c.clause.invariant.inside in
     let same = c.clause.invariant.lent ∙ c.begin.ensures.lent ∙ c.text.invariant.lent in
-    rw c.at-then-is_empty.ensures
-    (given_back (search rules) (refuses (no_zero a c.next_token-token-in-clause.ensures (grind (arith, nat_tests))) a.lent))
+    rw c.at-then-is_empty-2.ensures
+    (given_back (search rules) (refuses (no_zero a c.next_token-token.ensures (grind (arith, nat_tests))) a.lent))
 
 pub returns-in-Err-later_word : goal.returns-in-Err-later_word
 returns-in-Err-later_word c =

@@ -8,7 +8,7 @@ use Rattle.instance.specs.declared.faults.Fault.TheVariants.{VariableTooLarge}
 use Rattle.reader.specs.Numbers.{zero_digit}
 use Rattle.reader.specs.Said.{number_of}
 use Rattle.reader.specs.Words.{minus, later_word}
-use Rattle.reader.proofs.Alone.{is_alone}
+use Rattle.reader.proofs.Bytes.{is_alone}
 use Rattle.reader.proofs.LaterWords.{literal_by, variable_by, literal_many, literal_few, variable_most, coded, later_ends, Signed, signed_minus, signed_plain}
 use Rattle.reader.proofs.words.later_word.Goals as goal
 use Rattle.reader.proofs.words.later_word.Goals.{After-read_number, In_ok-read_number, Else-written-ge-LITERALS, else-token-lt1+in-45, in_default}

@@ -4,7 +4,7 @@ use Rattle.std.proofs.lemmas.Result.{err_from_is_err_and}
 use Rattle.instance.specs.declared.weights.Weight.TheVariants.{Soft}
 use Rattle.reader.specs.Numbers.{zero_digit}
 use Rattle.reader.specs.Words.{letter_h}
-use Rattle.reader.proofs.Alone.{is_alone, not_alone}
+use Rattle.reader.proofs.Bytes.{is_alone, not_alone}
 use Rattle.reader.proofs.FirstWords.{spells_hard, spells_zero, spells_number}
 use Rattle.reader.proofs.words.weight_spelled.Goals as goal
 
