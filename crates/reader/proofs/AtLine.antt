@@ -19,7 +19,7 @@ use Rattle.reader.specs.Drafts.{Begins}
 use Rattle.reader.specs.Promise.{ReadAnswers}
 use Rattle.reader.specs.declared.drafts.Draft.{Draft}
 use Rattle.reader.proofs.Theorems.Limits.{Opens, first_taken, open_begun}
-use Rattle.reader.proofs.AtWork.{row_opens}
+use Rattle.reader.proofs.AtWork.{row_begun}
 use Rattle.reader.proofs.Lexing.{from}
 use Rattle.reader.proofs.Modes.{between, inside, on_text, text_lines, token_goes, token_stops, last_line}
 use Rattle.reader.proofs.States.{lent_begun, Between, opened, Inside, accepts}
@@ -83,7 +83,7 @@ module _ {text before : List ℕ} {d : Draft} {i : ℕ} (b : Between text before
           ls = [];
           counts_to = s.counts ∙ ap (λ (k : Instance). opened k w) b.counts_to;
           work = open_begun b.sound o;
-          row = row_opens b.rows w o same_clauses s.store s.start s.kept;
+          row = row_begun b.rows w o same_clauses s.store s.start s.kept;
           further = omega arith;
           here = f.line.token.within;
           lent = lent_begun (coded w) b.lent (clause_fits e).0 s.store;

@@ -28,7 +28,7 @@ pub record Lent (before store : List ℕ) : Type 0 where
   pub long : length store ≡ length before
   pub beyond : drop store_size store ≡ drop store_size before
 
-pub lent_same : (store : List ℕ) → Lent store store
+lent_same : (store : List ℕ) → Lent store store
 lent_same store = record { long = refl; beyond = refl }
 
 pub lent_set : {before store : List ℕ} → Lent before store → (j v : ℕ) → j < store_size → Lent before (set store j v)

@@ -1,11 +1,10 @@
 -- A look at the clause's codes says whether it has the literal or its opposite.
-use Rattle.std.proofs.Common.{ℕ, ◌+◌, ◌/◌, max, Bool, false, List, [], ◌∷◌, map, ◌≡◌, refl, sym, ◌∙◌, eqb}
+use Rattle.std.proofs.Common.{ℕ, Bool, false, List, [], ◌∷◌, map, ◌≡◌, refl, sym, ◌∙◌, eqb}
 use Rattle.std.specs.List.{list_any}
 use Rattle.instance.specs.Clause.{Literal, occurs}
 use Rattle.instance.specs.Store.{literal_of}
 use Rattle.instance.specs.Theorems.Choices.{eqb_sym}
 use Rattle.instance.specs.Theorems.Codes.{same_literals}
-use Rattle.instance.specs.declared.Instance.{Instance}
 use Rattle.reader.specs.Drafts.{codes_from, literals_from, again, opposed, new}
 use Rattle.reader.proofs.drafts.Draft.keep.Goals as goal
 use Rattle.reader.proofs.drafts.Draft.keep.Goals.{Else-contains}
@@ -20,17 +19,13 @@ looked : (store : List ℕ) (start kept code : ℕ) {codes : List ℕ} {l : Lite
     → occurs l (literals_from store start kept) ≡ answer
 looked store start kept code e k f h = rw (← e, ← k) (sym (occurs_any code _) ∙ sym f ∙ h)
 
-counted : (i : Instance) (code : ℕ) {n : ℕ} → n ≡ max i.variables (code / 2)
-    → ◌≡◌ {A = Instance} (record i { variables = n; written = i.written + 1 }) (record i { variables = max i.variables (code / 2); written = i.written + 1 })
-counted i code e = rw e refl
-
 pub returns-then-contains : goal.returns-then-contains
 returns-then-contains c =
     let d = c.args.self.now in
     record {
       lent = refl;
       store = again (looked d.store.now d.start d.kept c.args.code refl c.codes.ensures c.contains.ensures.value c.if-contains.true);
-      counts = counted d.counts c.args.code c.max-self.ensures;
+      counts = cc;
       start = refl;
     }
 
@@ -45,7 +40,7 @@ returns-then-is_opposed c =
     record {
       lent = refl;
       store = opposed (none (goal.at.returns-then-is_opposed c).Else-contains) (looked d.store.now d.start d.kept _ c.opposite.ensures c.codes-2.ensures c.contains-is_opposed.ensures.value c.if-is_opposed.true);
-      counts = counted d.counts c.args.code c.max-self.ensures;
+      counts = cc;
       start = refl;
     }
 
@@ -55,6 +50,6 @@ returns-else-is_opposed c =
     record {
       lent = refl;
       store = new (none (goal.at.returns-else-is_opposed c).Else-contains) (looked d.store.now d.start d.kept _ c.opposite.ensures c.codes-2.ensures c.contains-is_opposed.ensures.value c.if-is_opposed.false);
-      counts = counted d.counts c.args.code c.max-self.ensures;
+      counts = cc;
       start = refl;
     }
