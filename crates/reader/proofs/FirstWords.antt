@@ -107,8 +107,8 @@ module _ (k total : ℕ) (o : Option Weight) where
       → weighed_by total r ≡ first_by k total (Ok o)
   first_few h e = rw (lt-leb most_clauses k h, first_by, e)
 
-pub first_over_lem : (total : ℕ) (w : Weight) → most_weight < total + coded w → bad_first 6 ≡ weighed_by total (Ok w)
-first_over_lem total w h = rw (lt-ltb most_weight (total + coded w) h, weighed_by)
+pub first_over : (total : ℕ) (w : Weight) → most_weight < total + coded w → bad_first 6 ≡ weighed_by total (Ok w)
+first_over total w h = rw (lt-ltb most_weight (total + coded w) h, weighed_by)
 
 pub first_weighs : (total : ℕ) (w : Weight) → total + coded w ≤ most_weight → weighs (meant w) ≡ weighed_by total (Ok w)
 first_weighs total w h = rw (le-ltb most_weight (total + coded w) h, weighed_by)

@@ -53,22 +53,16 @@ module _ (written : ℕ) (sign : ℕ → Literal) where
   pub literal_few : (x : ℕ) → written < most_literals → holds (sign x) ≡ variable_by written sign (Ok x)
   literal_few x h = rw (lt-leb most_literals written h, variable_by)
 
-  module _ (variable : (x : ℕ) → variable_of (sign x) ≡ x) where
-    says_over : (x : ℕ) → most_variables < x → bad_later 7 ≡ literal_says written (some (sign x))
-    unfolding literal_says
-    says_over x h = rw (lt-ltb most_variables (variable_of (sign x)) (omega (arith, variable x)), literal_says)
-
-    says_within : (x : ℕ) → x ≤ most_variables → variable_by written sign (Ok x) ≡ literal_says written (some (sign x))
-    unfolding literal_says
-    says_within x h = rw (le-ltb most_variables (variable_of (sign x)) (omega (arith, variable x)), literal_says)
-
-    literal_said : (t : List ℕ) → literal_by written sign (number_of most_variables t) ≡ literal_says written (signed sign t)
-    unfolding signed literal_says
-    literal_said t =
-        on_number (λ (n : Result (Option ℕ) Fault). literal_by written sign n ≡ literal_says written (signed sign t)) most_variables t
-        (λ e. rw (e, signed))
-        (λ e h. rw (e, signed) (says_over (decimal t) h))
-        (λ e h. rw (e, signed) (says_within (decimal t) h))
+  literal_said : ((x : ℕ) → variable_of (sign x) ≡ x) → (t : List ℕ)
+      → literal_by written sign (number_of most_variables t) ≡ literal_says written (signed sign t)
+  unfolding signed literal_says
+  literal_said variable t =
+      let x = decimal t in
+      let v = variable_of (sign x) in
+      on_number (λ (n : Result (Option ℕ) Fault). literal_by written sign n ≡ literal_says written (signed sign t)) most_variables t
+      (λ e. rw (e, signed))
+      (λ e h. rw (e, signed, lt-ltb most_variables v (omega (arith, variable x)), literal_says))
+      (λ e h. rw (e, signed, le-ltb most_variables v (omega (arith, variable x)), literal_says))
 
 -- ---- a literal, by its sign: 1 for the opposite
 abbrev pub coded : ℕ → ℕ → Literal
