@@ -28,7 +28,8 @@ use Rattle.reader.proofs.States.{Lent, lent_set, Between, Inside}
 
 -- ---- a literal is kept
 -- what the row of a clause is with the literals ls
-record Grown (before store : List ℕ) (n : ℕ) (cs : List Clause) (start kept : ℕ) (w : spec.Weight) (ls : List Literal) : Type 0 where
+record Grown (before store : List ℕ) (n : ℕ) (cs : List Clause) (start kept : ℕ) (w : spec.Weight) (ls : List Literal)
+    : Type 0 where
   row : Row store n cs start kept w (flag_of (tautology ls)) ls
   lent : Lent before store
 

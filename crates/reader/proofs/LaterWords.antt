@@ -59,7 +59,8 @@ module _ (written : ℕ) (sign : ℕ → Literal) where
   literal_said variable t =
       let x = decimal t in
       let v = variable_of (sign x) in
-      on_number (λ (n : Result (Option ℕ) Fault). literal_by written sign n ≡ literal_says written (signed sign t)) most_variables t
+      let Says : Result (Option ℕ) Fault → Type 0 = λ n. literal_by written sign n ≡ literal_says written (signed sign t) in
+      on_number Says most_variables t
       (λ e. rw (e, signed))
       (λ e h. rw (e, signed, lt-ltb most_variables v (omega (arith, variable x)), literal_says))
       (λ e h. rw (e, signed, le-ltb most_variables v (omega (arith, variable x)), literal_says))
@@ -106,11 +107,14 @@ module _ (t : List ℕ) (some : 0 < length t) where
   literal_signed digits sign small more e = record {
     small = small;
     said = λ written.
-        rw (more, later_word) (ap (literal_says written) e ∙ sym (literal_said written (coded sign) (coded_variable sign small) digits));
+        rw (more, later_word)
+        (ap (literal_says written) e ∙ sym (literal_said written (coded sign) (coded_variable sign small) digits));
   }
 
   pub signed_minus : get_or t 0 0 ≡ minus → Signed t (take (length t - 1) (drop 1 t)) 1
-  signed_minus e = literal_signed (take (length t - 1) (drop 1 t)) 1 (omega arith) (not_alone zero_digit t (λ _ f. omega arith)) (spelled_minus t some e)
+  signed_minus e =
+      literal_signed (take (length t - 1) (drop 1 t)) 1 (omega arith) (not_alone zero_digit t (λ _ f. omega arith))
+      (spelled_minus t some e)
 
   pub signed_plain : (get_or t 0 0 ≡ minus → ⊥) → (length t ≡ 1 → get_or t 0 0 ≡ zero_digit → ⊥) → Signed t t 0
   signed_plain n more = literal_signed t 0 (omega arith) (not_alone zero_digit t more) (spelled_plain t some n)

@@ -110,7 +110,8 @@ module _ (I : Problem) where
           rw (span_more in_line b bs e, n) (skip_byte p b bs e ∙ h)
       go false e h = rw (span_stop in_line b bs e, add-zero)
 
-  skip_end : (p : ℕ) (bs : List ℕ) → prefix_len in_line bs ≡ 0 → on_text (skipping I) (lines p bs) ≡ on_text (between I) (lines p bs)
+  skip_end : (p : ℕ) (bs : List ℕ) → prefix_len in_line bs ≡ 0
+      → on_text (skipping I) (lines p bs) ≡ on_text (between I) (lines p bs)
   unfolding lines line_read in_line
   skip_end p [] h = refl
   skip_end p (b ∷ bs) h =
