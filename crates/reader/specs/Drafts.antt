@@ -23,6 +23,7 @@ pub data Kept (store : List ℕ) (clause start kept code : ℕ) : ℕ → List �
       → occurs (opposite (literal_of code)) (literals_from store start kept) ≡ false
       → Kept store clause start kept code (kept + 1) (set store (literals_at + kept) code)
 
+-- ---- the steps; by `lent` the draft still has the store that it was given
 -- a clause of this weight begins
 pub record Begins (d : Draft) (w : Weight) (d' : Draft) : Type 0 where
   pub lent : d'.store.ghost_name ≡ d.store.ghost_name
