@@ -5,17 +5,13 @@ use Rattle.std.specs.Bool.{then_some}
 use Rattle.std.proofs.Math.Decide.{dec_le}
 use Rattle.std.proofs.lemmas.Bool.{lt-leb}
 use Rattle.std.proofs.lemmas.List.{at_drop_more, at_drop_all}
-use Rattle.instance.specs.Theorems.Choices.{on_test, both}
+use Rattle.instance.specs.Theorems.Choices.{on_test}
 use Rattle.instance.specs.declared.faults.Fault.{Fault}
 use Rattle.instance.specs.declared.faults.Fault.TheVariants.{WrongToken}
-use Rattle.reader.specs.Numbers.{zero_digit, nine_digit, digit, all_digits, spelled, value_from, decimal}
+use Rattle.reader.specs.Numbers.{zero_digit, digit, all_digits, spelled, value_from, decimal}
 use Rattle.reader.specs.Said.{number_of}
 
 -- ---- spelling
-pub digit_low : (b : ℕ) → digit b ≡ true → zero_digit ≤ b
-unfolding digit
-digit_low b e = leb-true zero_digit b (both (leb zero_digit b) (leb b nine_digit) e).0
-
 all_more : (b : ℕ) (bs : List ℕ) → digit b ≡ true → all_digits (b ∷ bs) ≡ all_digits bs
 unfolding all_digits
 all_more b bs e = rw (e, all_digits)

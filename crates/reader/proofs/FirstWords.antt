@@ -62,10 +62,11 @@ module _ (t : List ℕ) where
     pub spells_zero : alone zero_digit t ≡ true → Ok None ≡ spelled_as (weight_spelled t)
     spells_zero e = sym (ap spelled_as (weight_number (rw e (or-true (spelled t)))) ∙ rw (zero_worth t e) soft_zero)
 
-    pub spells_number : alone zero_digit t ≡ false → {r : Result (Option ℕ) Fault} → r ≡ number_of most_weight t → spelled_by r ≡ spelled_as (weight_spelled t)
+    pub spells_number : alone zero_digit t ≡ false → {r : Result (Option ℕ) Fault} → r ≡ number_of most_weight t
+        → spelled_by r ≡ spelled_as (weight_spelled t)
     spells_number e g =
-        ap spelled_by g ∙
-        on_number (λ (n : Result (Option ℕ) Fault). spelled_by n ≡ spelled_as (weight_spelled t)) most_weight t
+        ap spelled_by g
+        ∙ on_number (λ (n : Result (Option ℕ) Fault). spelled_by n ≡ spelled_as (weight_spelled t)) most_weight t
         (λ f. sym (weight_none (rw (f, e))))
         (λ f h. sym (ap spelled_as (weight_number (rw f)) ∙ soft_over (decimal t) h))
         (λ f h. sym (ap spelled_as (weight_number (rw f)) ∙ soft_within (decimal t) (spelled_some t f) h))
@@ -107,8 +108,8 @@ module _ (k total : ℕ) (o : Option Weight) where
       → weighed_by total r ≡ first_by k total (Ok o)
   first_few h e = rw (lt-leb most_clauses k h, first_by, e)
 
-pub first_over_lem : (total : ℕ) (w : Weight) → most_weight < total + coded w → bad_first 6 ≡ weighed_by total (Ok w)
-first_over_lem total w h = rw (lt-ltb most_weight (total + coded w) h, weighed_by)
+pub first_over : (total : ℕ) (w : Weight) → most_weight < total + coded w → bad_first 6 ≡ weighed_by total (Ok w)
+first_over total w h = rw (lt-ltb most_weight (total + coded w) h, weighed_by)
 
 pub first_weighs : (total : ℕ) (w : Weight) → total + coded w ≤ most_weight → weighs (meant w) ≡ weighed_by total (Ok w)
 first_weighs total w h = rw (le-ltb most_weight (total + coded w) h, weighed_by)

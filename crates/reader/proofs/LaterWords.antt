@@ -17,7 +17,7 @@ use Rattle.instance.specs.declared.faults.Fault.TheVariants.{VariableTooLarge}
 use Rattle.reader.specs.Numbers.{zero_digit, decimal}
 use Rattle.reader.specs.Words.{minus, alone, signed, literal_spelled, Later, ends, holds, bad_later, later_word}
 use Rattle.reader.specs.Said.{number_of}
-use Rattle.reader.proofs.Alone.{not_alone}
+use Rattle.reader.proofs.Bytes.{not_alone}
 use Rattle.reader.proofs.Digits.{on_number, AtMost, number_most}
 
 -- ---- a literal, by its variable
@@ -53,22 +53,17 @@ module _ (written : ℕ) (sign : ℕ → Literal) where
   pub literal_few : (x : ℕ) → written < most_literals → holds (sign x) ≡ variable_by written sign (Ok x)
   literal_few x h = rw (lt-leb most_literals written h, variable_by)
 
-  module _ (variable : (x : ℕ) → variable_of (sign x) ≡ x) where
-    says_over : (x : ℕ) → most_variables < x → bad_later 7 ≡ literal_says written (some (sign x))
-    unfolding literal_says
-    says_over x h = rw (lt-ltb most_variables (variable_of (sign x)) (omega (arith, variable x)), literal_says)
-
-    says_within : (x : ℕ) → x ≤ most_variables → variable_by written sign (Ok x) ≡ literal_says written (some (sign x))
-    unfolding literal_says
-    says_within x h = rw (le-ltb most_variables (variable_of (sign x)) (omega (arith, variable x)), literal_says)
-
-    literal_said : (t : List ℕ) → literal_by written sign (number_of most_variables t) ≡ literal_says written (signed sign t)
-    unfolding signed literal_says
-    literal_said t =
-        on_number (λ (n : Result (Option ℕ) Fault). literal_by written sign n ≡ literal_says written (signed sign t)) most_variables t
-        (λ e. rw (e, signed))
-        (λ e h. rw (e, signed) (says_over (decimal t) h))
-        (λ e h. rw (e, signed) (says_within (decimal t) h))
+  literal_said : ((x : ℕ) → variable_of (sign x) ≡ x) → (t : List ℕ)
+      → literal_by written sign (number_of most_variables t) ≡ literal_says written (signed sign t)
+  unfolding signed literal_says
+  literal_said variable t =
+      let x = decimal t in
+      let v = variable_of (sign x) in
+      let Says : Result (Option ℕ) Fault → Type 0 = λ n. literal_by written sign n ≡ literal_says written (signed sign t) in
+      on_number Says most_variables t
+      (λ e. rw (e, signed))
+      (λ e h. rw (e, signed, lt-ltb most_variables v (omega (arith, variable x)), literal_says))
+      (λ e h. rw (e, signed, le-ltb most_variables v (omega (arith, variable x)), literal_says))
 
 -- ---- a literal, by its sign: 1 for the opposite
 abbrev pub coded : ℕ → ℕ → Literal
@@ -112,11 +107,14 @@ module _ (t : List ℕ) (some : 0 < length t) where
   literal_signed digits sign small more e = record {
     small = small;
     said = λ written.
-        rw (more, later_word) (ap (literal_says written) e ∙ sym (literal_said written (coded sign) (coded_variable sign small) digits));
+        rw (more, later_word)
+        (ap (literal_says written) e ∙ sym (literal_said written (coded sign) (coded_variable sign small) digits));
   }
 
   pub signed_minus : get_or t 0 0 ≡ minus → Signed t (take (length t - 1) (drop 1 t)) 1
-  signed_minus e = literal_signed (take (length t - 1) (drop 1 t)) 1 (omega arith) (not_alone zero_digit t (λ _ f. omega arith)) (spelled_minus t some e)
+  signed_minus e =
+      literal_signed (take (length t - 1) (drop 1 t)) 1 (omega arith) (not_alone zero_digit t (λ _ f. omega arith))
+      (spelled_minus t some e)
 
   pub signed_plain : (get_or t 0 0 ≡ minus → ⊥) → (length t ≡ 1 → get_or t 0 0 ≡ zero_digit → ⊥) → Signed t t 0
   signed_plain n more = literal_signed t 0 (omega arith) (not_alone zero_digit t more) (spelled_plain t some n)

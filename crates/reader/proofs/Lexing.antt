@@ -110,7 +110,8 @@ lines_token p (b ∷ bs) h = go (starts_in_token bs) refl (lines_token (suc p) b
         let n : p + suc (prefix_len in_token bs) ≡ suc p + prefix_len in_token bs = omega arith in
         rw (span_more in_token b bs h, n)
         (lines_widened p b bs h e ∙ ap (on_first (widened p b)) (ih e)
-        ∙ push_widened p b (suc p) (take (prefix_len in_token bs) bs) (lines (suc p + prefix_len in_token bs) (drop (prefix_len in_token bs) bs)))
+        ∙ push_widened p b (suc p) (take (prefix_len in_token bs) bs)
+        (lines (suc p + prefix_len in_token bs) (drop (prefix_len in_token bs) bs)))
     go false e ih =
         let n : p + 1 ≡ suc p = omega arith in
         rw (span_more in_token b bs h, no_token bs e, n) (lines_begun p b bs h e ∙ push_begun p b (lines (suc p) bs))
@@ -174,7 +175,8 @@ module _ {text : List ℕ} {i place : ℕ} {bytes : List ℕ} (t : TokenAt text 
       let b = get_or text place 0 in
       let rest = drop-cons text place 0 h in
       let e : blank b ≡ false = span_none blank b (drop (suc place) text) (sym (ap (prefix_len blank) rest) ∙ no_blank) in
-      let f : in_token b ≡ false = span_none in_token b (drop (suc place) text) (omega (arith, width, ap (prefix_len in_token) rest)) in
+      let f : in_token b ≡ false =
+      span_none in_token b (drop (suc place) text) (omega (arith, width, ap (prefix_len in_token) rest)) in
       from_blanks ∙ rw (add-one, rest) (lines_feed place b (drop (suc place) text) (feed_left b e f))
 
   -- no token: the line ends here

@@ -6,7 +6,7 @@ use Rattle.std.proofs.lemmas.Bool.{not-true, not-false}
 use Rattle.instance.specs.Clause.{Literal, Weight, Problem}
 use Rattle.instance.specs.Theorems.Choices.{on_test, never}
 use Rattle.reader.specs.Lines.{line_feed, blank, Token, Line, on_first, begun, widened, starts_in_token, lines}
-use Rattle.reader.specs.Reading.{Reading, read, refused, ended, clause_from, line_read, lines_read}
+use Rattle.reader.specs.Reading.{Reading, read, refused, ended, clause_from, comment, line_read, lines_read}
 use Rattle.reader.specs.Spans.{in_line, past, TokenAt}
 use Rattle.reader.proofs.Spans.{span_more, span_stop, span_none, span_after}
 use Rattle.reader.proofs.Lexing.{from, lines_feed, lines_some, found, from_token, from_last, from_feed, from_stop}
@@ -69,11 +69,11 @@ module _ {text : List ℕ} {i place : ℕ} {bytes : List ℕ} (t : TokenAt text 
 
 -- ---- from line to line
 module _ {text : List ℕ} {i place : ℕ} {bytes : List ℕ} (t : TokenAt text i place bytes) (I : Problem) where
-  pub next_line : length bytes ≡ 0 → place < length text → on_text (between I) (from text i) ≡ on_text (between I) (from text (place + 1))
-  unfolding line_read
-  next_line l h = rw (from_feed t l h) (text_lines I (from text (place + 1)))
+  pub empty_goes : length bytes ≡ 0 → place < length text → lines_read I (from text i) ≡ lines_read I (from text (place + 1))
+  unfolding line_read lines_read
+  empty_goes l h = rw (from_feed t l h)
 
-  pub last_line : length text ≤ place → on_text (between I) (from text i) ≡ read I
+  pub last_line : length text ≤ place → lines_read I (from text i) ≡ read I
   unfolding line_read lines_read
   last_line h = rw (from_last t h)
 
@@ -110,13 +110,14 @@ module _ (I : Problem) where
           rw (span_more in_line b bs e, n) (skip_byte p b bs e ∙ h)
       go false e h = rw (span_stop in_line b bs e, add-zero)
 
-  skip_end : (p : ℕ) (bs : List ℕ) → prefix_len in_line bs ≡ 0 → on_text (skipping I) (lines p bs) ≡ on_text (between I) (lines p bs)
+  skip_end : (p : ℕ) (bs : List ℕ) → prefix_len in_line bs ≡ 0
+      → on_text (skipping I) (lines p bs) ≡ on_text (between I) (lines p bs)
   unfolding lines line_read in_line
   skip_end p [] h = refl
   skip_end p (b ∷ bs) h =
       rw (lines_feed p b bs (not-false (eqb b line_feed) (span_none in_line b bs h)))
 
-  pub skip_line : (text : List ℕ) (i : ℕ)
+  skip_line : (text : List ℕ) (i : ℕ)
       → on_text (skipping I) (from text i) ≡ on_text (between I) (from text (past in_line text i))
   skip_line text i =
       let j = past in_line text i in
@@ -124,3 +125,13 @@ module _ (I : Problem) where
       skip_bytes i (drop i text)
       ∙ ap (λ (bs : List ℕ). on_text (skipping I) (lines j bs)) rest
       ∙ skip_end j (drop j text) (ap (prefix_len in_line) (sym rest) ∙ span_after in_line (drop i text))
+
+  pub comment_goes : {text : List ℕ} {i place : ℕ} {bytes : List ℕ} → TokenAt text i place bytes → 0 < length bytes
+      → comment bytes ≡ true → lines_read I (from text i) ≡ lines_read I (from text (past in_line text (place + length bytes)))
+  unfolding line_read
+  comment_goes {text} {i} {place} {bytes} t some c =
+      let end = place + length bytes in
+      text_lines I (from text i)
+      ∙ token_goes t (between I) some (skipping I) (λ _ ts. rw (c, line_read))
+      ∙ skip_line text end
+      ∙ sym (text_lines I (from text (past in_line text end)))

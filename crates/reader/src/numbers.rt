@@ -4,8 +4,8 @@ ghost use Rattle.reader.specs.Said.{number_of};
 
 use instance::Fault;
 
-// The value of a token of digits without a leading zero, or none where it is over a limit. It is held at one over the limit, so
-// that digits of any number are read through.
+// The value of a token of digits without a leading zero, or none where it is over a limit. The value is held at one over the
+// limit, so that a token of any length is read through.
 pub fn read_number(token: &[u8], limit: u64) -> Result<Option<u64>, Fault>
     requires { limit ≤ most_weight }
     ensures { result ≡ number_of limit token.now }

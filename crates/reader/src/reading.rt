@@ -2,9 +2,8 @@ ghost use Rattle.std.specs.Prelude.{◌≤◌, length};
 ghost use Rattle.instance.specs.Memory.{store_size};
 ghost use Rattle.reader.specs.Promise.{ReadAnswers};
 
-use crate::counting::{with_clause, with_literal};
-use crate::keeping::{begin, keep};
-use crate::tokens::{next_token, past_line};
+use crate::drafts::Draft;
+use crate::tokens::{next_line, next_token};
 use crate::words::{first_word, later_word};
 use instance::{Fault, Instance, Stage};
 
@@ -13,43 +12,27 @@ pub fn read(text: &[u8], store: &mut [u64]) -> Result<Instance, Stage>
     requires { store_size ≤ length store.old }
     ensures { ReadAnswers text.now store.old result store.new }
 {
-    let mut counted = Instance::default();
-    // literals of all clauses in the store
-    let mut kept = 0;
+    let mut draft = Draft::new(store);
     let mut i = 0;
     'text: loop {
-        let token = next_token(text, i);
-        match token.bytes {
-            [] if token.place == text.len() => break 'text Ok(counted),
-            [] => {
-                i = token.place + 1;
-                continue 'text;
-            }
-            [b'c', ..] => {
-                i = past_line(text, token.end());
-                continue 'text;
-            }
-            _ => {}
+        let first = next_line(text, i);
+        if first.bytes.is_empty() {
+            break 'text Ok(draft.counts);
         }
-        let weight = match first_word(token.bytes, counted.clauses, counted.total) {
+        let weight = match first_word(first.bytes, draft.counts.clauses, draft.counts.total) {
             Ok(weight) => weight,
-            Err(fault) => break 'text Err(fault.at(token.place)),
+            Err(fault) => break 'text Err(fault.at(first.place)),
         };
-        let clause = counted.clauses;
-        let start = kept;
-        begin(store, clause, weight);
-        i = token.end();
+        draft.begin(weight);
+        i = first.end();
         'clause: loop {
             let token = next_token(text, i);
             if token.bytes.is_empty() {
                 break 'text Err(Fault::ClauseWithoutEnd.at(token.place));
             }
             i = token.end();
-            match later_word(token.bytes, counted.written) {
-                Ok(Some(code)) => {
-                    counted = with_literal(counted, code);
-                    kept = keep(store, clause, start, kept, code);
-                }
+            match later_word(token.bytes, draft.counts.written) {
+                Ok(Some(code)) => draft.keep(code),
                 Ok(None) => break 'clause,
                 Err(fault) => break 'text Err(fault.at(token.place)),
             }
@@ -58,8 +41,7 @@ pub fn read(text: &[u8], store: &mut [u64]) -> Result<Instance, Stage>
         if !after.bytes.is_empty() {
             break 'text Err(Fault::WrongToken.at(after.place));
         }
-        store[clause] = kept as u64;
-        counted = with_clause(counted, weight);
+        draft.close();
         i = after.place;
     }
 }

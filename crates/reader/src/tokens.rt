@@ -1,7 +1,7 @@
 ghost use Rattle.std.specs.List.{prefix_len};
 ghost use Rattle.std.specs.Prelude.{ℕ, ◌≡◌, ◌+◌, ◌<◌, ◌≤◌, ◌^◌, Bool, length};
 ghost use Rattle.reader.specs.Lines.{blank, in_token};
-ghost use Rattle.reader.specs.Spans.{in_line, past, TokenAt};
+ghost use Rattle.reader.specs.Spans.{in_line, past, TokenAt, LineAt};
 
 // A token with the place of its first byte; empty where the line has no more.
 #[derive(Clone, Copy)]
@@ -52,7 +52,7 @@ fn span<F: Fn(u8) -> bool>(bytes: &[u8], is_of_kind: F) -> usize
     bytes.iter().take_while(|b| is_of_kind(**b)).count()
 }
 
-// The next token of the line.
+// The next token of the line, past the blanks.
 pub fn next_token(text: &[u8], from: usize) -> Token<'_>
     requires { from ≤ length text.now }
     ensures { TokenAt text.now from result.place result.bytes.now }
@@ -66,9 +66,25 @@ pub fn next_token(text: &[u8], from: usize) -> Token<'_>
 }
 
 // The LF of the line that this place is on, or the text's length.
-pub fn past_line(text: &[u8], from: usize) -> usize
+fn past_line(text: &[u8], from: usize) -> usize
     requires { from ≤ length text.now }
     ensures { result ≡ past in_line text.now from }
 {
     from + span(&text[from..], is_in_line)
+}
+
+// The first token of the next clause: past lines without tokens, and comments. Empty at the text's end.
+pub fn next_line(text: &[u8], from: usize) -> Token<'_>
+    requires { from ≤ length text.now }
+    ensures { LineAt text.now from result.place result.bytes.now }
+{
+    let mut i = from;
+    loop {
+        let token = next_token(text, i);
+        match token.bytes {
+            [] if token.place < text.len() => i = token.place + 1,
+            [b'c', ..] => i = past_line(text, token.end()),
+            _ => return token,
+        }
+    }
 }

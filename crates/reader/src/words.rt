@@ -22,11 +22,11 @@ pub fn first_word(token: &[u8], clauses: usize, total: u64) -> Result<Weight, Fa
     requires { total ≤ most_weight }
     ensures { FirstSaid token.now clauses total result }
 {
-    let weight = weight_spelled(token)?;
+    let spelled = weight_spelled(token)?;
     if clauses >= Instance::CLAUSES {
         return Err(Fault::TooManyClauses);
     }
-    let weight = weight.ok_or(Fault::WeightOutOfRange)?;
+    let weight = spelled.ok_or(Fault::WeightOutOfRange)?;
     if total + u64::from(weight) > Instance::WEIGHT {
         return Err(Fault::TotalTooLarge);
     }

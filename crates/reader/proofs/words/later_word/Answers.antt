@@ -8,11 +8,29 @@ use Rattle.instance.specs.declared.faults.Fault.TheVariants.{VariableTooLarge}
 use Rattle.reader.specs.Numbers.{zero_digit}
 use Rattle.reader.specs.Said.{number_of}
 use Rattle.reader.specs.Words.{minus, later_word}
-use Rattle.reader.proofs.Alone.{is_alone}
-use Rattle.reader.proofs.LaterWords.{literal_by, variable_by, literal_many, literal_few, variable_most, coded, later_ends, Signed, signed_minus, signed_plain}
+use Rattle.reader.proofs.Bytes.{is_alone}
+use Rattle.reader.proofs.LaterWords.{
+  literal_by,
+  variable_by,
+  literal_many,
+  literal_few,
+  variable_most,
+  coded,
+  later_ends,
+  Signed,
+  signed_minus,
+  signed_plain,
+}
 use Rattle.reader.proofs.words.later_word.Goals as goal
-use Rattle.reader.proofs.words.later_word.Goals.{After-read_number, In_ok-read_number, Else-written-ge-LITERALS, else-token-lt1+in-45, in_default}
+use Rattle.reader.proofs.words.later_word.Goals.{
+  After-read_number,
+  In_ok-read_number,
+  Else-written-ge-LITERALS,
+  else-token-lt1+in-45,
+  in_default,
+}
 
+-- the digits and the sign
 signed : (c : After-read_number) → Signed c.args.token.now c.if-token-lt1.sign.0.now c.if-token-lt1.sign.1
 signed c =
     let t = c.args.token.now in
@@ -40,7 +58,9 @@ returns-in_err-read_number c =
 -- what the variable says
 by_variable : (c : In_ok-read_number) {r : Result ℕ Fault} → r ≡ ok_or c.in_ok-read_number.field-0 VariableTooLarge
     → variable_by c.args.written (coded c.if-token-lt1.sign.1) r ≡ later_word c.args.written c.args.token.now
-by_variable c e = ap (variable_by c.args.written (coded c.if-token-lt1.sign.1)) e ∙ by_number (goal.at.In_ok-read_number c).After-read_number c.in_ok-read_number.ensures
+by_variable c e =
+    ap (variable_by c.args.written (coded c.if-token-lt1.sign.1)) e
+    ∙ by_number (goal.at.In_ok-read_number c).After-read_number c.in_ok-read_number.ensures
 
 pub returns-in_err-variable : goal.returns-in_err-variable
 returns-in_err-variable c =
@@ -53,7 +73,7 @@ returns-then-written-ge-LITERALS c =
     ∙ by_variable (goal.at.returns-then-written-ge-LITERALS c).In_ok-read_number c.in_ok-variable.ensures.value
 
 most : (c : Else-written-ge-LITERALS) → c.in_ok-variable.variable ≤ most_variables
-most c = variable_most c.if-token-lt1.sign.0.now c.in_ok-read_number.field-0 c.in_ok-variable.variable c.in_ok-read_number.ensures c.in_ok-variable.ensures.value
+most c = variable_most c.if-token-lt1.sign.0.now _ _ c.in_ok-read_number.ensures c.in_ok-variable.ensures.value
 
 pub overflow_mul-result : goal.overflow_mul-result
 overflow_mul-result c = omega (arith, most c)

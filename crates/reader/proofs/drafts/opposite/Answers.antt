@@ -5,7 +5,7 @@ use Rattle.std.specs.Int.Bits.{bit_xor, xor_zero_r}
 use Rattle.instance.specs.Clause.{opposite}
 use Rattle.instance.specs.Store.{literal_of}
 use Rattle.instance.specs.Theorems.Codes.{opposite_even, opposite_odd}
-use Rattle.reader.proofs.keeping.opposite.Goals as goal
+use Rattle.reader.proofs.drafts.opposite.Goals as goal
 
 -- the last bit is turned, and the others stay
 turned : (c : ℕ) → bit_xor c 1 ≡ c / 2 * 2 + bit_xor (c % 2) 1
