@@ -1,5 +1,5 @@
 -- The workspaces that Check borrows: only their parts up to the constants are lent on, and those are cleared.
-use Rattle.std.proofs.Common.{ℕ, ◌≤◌, true, false, List, ◌++◌, length, take, drop, ◌≡◌, ◌∙◌}
+use Rattle.std.proofs.Common.{ℕ, ◌≤◌, true, false, List, ◌++◌, length, take, drop, ◌≡◌, ◌∙◌, arith}
 use Rattle.std.proofs.lemmas.List.{drop_at, length-take-le}
 use Rattle.instance.specs.Memory.{store_size, cells_size, log_size, frames_size, cleared, returned}
 use Rattle.instance.specs.Refusals.{staged}
@@ -8,6 +8,9 @@ use Rattle.instance.specs.declared.answers.Checked.{Checked}
 use Rattle.instance.specs.declared.answers.Checked.TheVariants.{Refused}
 use Rattle.derivation.specs.Check.{Desk, roomy, desk_after, check_of, CheckAnswers}
 use Rattle.verdict.specs.Workspaces.{desk}
+
+pub part_whole : (size : ℕ) (w : List ℕ) → size ≤ length w → size ≤ length (take size w)
+part_whole size w h = omega (arith, length-take-le size w h)
 
 pub whole_cleared : (size : ℕ) (w part after : List ℕ) → size ≤ length w → after ≡ cleared size (part ++ drop size w) →
     length part ≡ length (take size w) → after ≡ cleared size w

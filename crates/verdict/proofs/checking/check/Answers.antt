@@ -6,12 +6,19 @@ use Rattle.instance.specs.declared.answers.Checked.{Checked}
 use Rattle.derivation.specs.Check.{roomy, CheckAnswers}
 use Rattle.derivation.proofs.Theorems.Sound.{answers_meant}
 use Rattle.verdict.specs.Workspaces.{desk}
-use Rattle.verdict.proofs.Desks.{whole_cleared, desk_kept, desk_cleared}
+use Rattle.verdict.proofs.Desks.{part_whole, whole_cleared, desk_kept, desk_cleared}
 use Rattle.verdict.proofs.checking.check.Goals as goal
 
 pub returns-then-store-lt-STORE-clause-answers : goal.returns-then-store-lt-STORE-clause-answers
 unfolding roomy ample
 returns-then-store-lt-STORE-clause-answers c = desk_kept _ _ _ _ _ (grind (arith, nat_tests)) (ap Checked.Refused c.at.ensures)
+
+pub invariant_of-desk : goal.invariant_of-desk
+invariant_of-desk c = record {
+  enough_cells = part_whole cells_size _ c.if-cells-lt-CELLS.false;
+  enough_log = part_whole log_size _ c.if-log-lt-LOG.false;
+  enough_frames = part_whole frames_size _ c.if-frames-lt-FRAMES.false;
+}
 
 pub returns : goal.returns
 unfolding roomy ample
