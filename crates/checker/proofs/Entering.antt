@@ -1,26 +1,21 @@
 -- A frame's next branch, entered from the state that its extension left: from the memory to the list of open branches.
-use Rattle.std.proofs.Common.{ℕ, suc, ◌+◌, ◌*◌, ◌-◌, ◌<◌, ◌≤◌, true, List, [], ◌∷◌, ◌++◌, map, ◌≡◌, refl, sym, ap, ◌∙◌, arith, add-one, length, get_or, take, drop}
+use Rattle.std.proofs.Common.{ℕ, suc, ◌+◌, ◌-◌, ◌<◌, ◌≤◌, List, [], ◌∷◌, ◌++◌, map, ◌≡◌, ap, arith, add-one, length, get_or, take, drop}
 use Rattle.instance.specs.Limits.{most_clauses, most_literals}
-use Rattle.instance.specs.Memory.{store_size}
-use Rattle.instance.specs.Clause.{soft, Problem}
-use Rattle.instance.specs.Store.{literals_at, literal_of, start_in, end_in, Stored, Given}
+use Rattle.instance.specs.Clause.{Problem}
+use Rattle.instance.specs.Store.{literals_at, literal_of, end_in, Stored, Given}
 use Rattle.instance.specs.declared.held.Held.{Held}
 use Rattle.journal.specs.Undo.{Places}
-use Rattle.journal.specs.Theorems.Stores.{later_places, rewound_length}
-use Rattle.calculus.specs.Branch.{Branch, put, gain, unit_of, branches}
-use Rattle.calculus.specs.Derivation.{go, extending}
+use Rattle.journal.specs.Theorems.Stores.{later_places}
+use Rattle.calculus.specs.Branch.{Branch, gain, unit_of, branches}
 use Rattle.branch.specs.declared.Branch as code
-use Rattle.branch.specs.Shows.{open_in}
-use Rattle.branch.specs.Works.{most_entries, Works}
-use Rattle.branch.specs.Extensions.{Coded, Coming, Spent, Gained}
-use Rattle.branch.specs.Theorems.Stored.{part_cons, literal_coded, soft_stored, soft_weight_lem}
-use Rattle.branch.specs.Theorems.Extending.{Extensible, extending_open}
+use Rattle.branch.specs.Extensions.{Coded, Coming, Gained}
+use Rattle.branch.specs.Theorems.Stored.{part_cons, literal_coded}
 use Rattle.checker.specs.declared.frames.Frame.{Frame}
 use Rattle.checker.specs.declared.frames.Frames.{Frames}
 use Rattle.checker.specs.declared.walk.Walk.{Walk}
-use Rattle.checker.specs.Frames.{frame_at, framed, weight_in, alone, branches_from, base_of, Waits, Stack}
+use Rattle.checker.specs.Frames.{frame_at, weight_in, alone, branches_from, Waits, Stack}
 use Rattle.checker.specs.Walking.{Stands}
-use Rattle.checker.proofs.Stacks.{passed, Below, stack_later, stack_push, framed_here, framed_below}
+use Rattle.checker.proofs.Stacks.{passed, Below, stack_later, stack_push}
 
 -- the code of the literal at a place
 abbrev pub literal_in : List ℕ → ℕ → ℕ

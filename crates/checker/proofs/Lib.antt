@@ -2,6 +2,5 @@ pub mod Decodes
 pub mod Stacks
 pub mod Entering
 pub mod Walks
-pub mod Stepping
 pub mod Running
 pub mod Turns

@@ -1,5 +1,5 @@
 -- The walk's memory stands for the list of open branches; what each step does to that list.
-use Rattle.std.specs.Prelude.{suc, true, List, ◌∷◌, ◌++◌, ◌≡◌, ℕ, length}
+use Rattle.std.specs.Prelude.{suc, true, false, List, ◌∷◌, ◌++◌, ◌≡◌, ℕ, length}
 use Rattle.instance.specs.Clause.{Problem}
 use Rattle.instance.specs.Store.{Given}
 use Rattle.journal.specs.Undo.{Places}
@@ -21,6 +21,10 @@ pub record Stands (I : Problem) (w : Walk) (b : Branch) (bs : List Branch) : Typ
 -- the memory stands for some list of open branches
 abbrev pub Standing : Walk → Type 0
 Standing w = (I : Problem) × (b : Branch) × (bs : List Branch) × Stands I w b bs
+
+-- and the one at work is not dead
+abbrev pub Alive : Walk → Type 0
+Alive w = (I : Problem) × (b : Branch) × (bs : List Branch) × Stands I w b bs × (b.dead ≡ false)
 
 -- ---- an extension of the clause at k
 abbrev pub Extending : Walk → ℕ → Type 0

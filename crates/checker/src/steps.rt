@@ -1,6 +1,9 @@
-ghost use Rattle.calculus.specs.Derivation.{step as stepped};
-ghost use Rattle.checker.specs.Walking.{Standing};
-ghost use Rattle.checker.specs.Moves.{Steps};
+ghost use Rattle.std.specs.Prelude.{false, List, ◌≡◌};
+ghost use Rattle.instance.specs.Clause.{Problem};
+ghost use Rattle.calculus.specs.Branch.{Branch};
+ghost use Rattle.calculus.specs.Derivation.{closing, extending, contradicting, step as stepped};
+ghost use Rattle.checker.specs.Walking.{Stands, Standing, Alive};
+ghost use Rattle.checker.specs.Moves.{Moved, Steps};
 
 use crate::walk::Walk;
 use calculus::Record;
@@ -16,11 +19,8 @@ pub enum Step {
 impl Walk<'_, '_> {
     fn on_extend(&mut self, number: usize) -> Result<Step, Fault>
         requires { Standing self.old }
-        ensures { (claim : Claim) → Steps (λ I b. stepped I claim (Record.E number) b) self.old self.new result }
+        ensures { Steps (λ I b. extending number b) self.old self.new result }
     {
-        if self.branch.is_dead() {
-            return Err(Fault::DeadBranch);
-        }
         if number == 0 || Instance::CLAUSES < number || !self.branch.can_extend(number - 1) {
             return Err(Fault::NotExtendable);
         }
@@ -29,13 +29,12 @@ impl Walk<'_, '_> {
     }
 
     fn on_contradict(&mut self, x: usize) -> Result<Step, Fault>
-        requires { Standing self.old }
-        ensures { (claim : Claim) → Steps (λ I b. stepped I claim (Record.C x) b) self.old self.new result }
+        requires { Alive self.old }
+        ensures { (I : Problem) (b : Branch) (bs : List Branch) → Stands I self.old b bs → b.dead ≡ false
+            → Moved I self.new bs result (contradicting I x b) }
     {
-        if self.branch.is_dead() {
-            return Err(Fault::DeadBranch);
-        }
-        if x == 0 || self.held.counts.variables < x as u64 {
+        let n = self.held.counts.variables;
+        if x == 0 || n < x as u64 {
             return Err(Fault::NothingToContradict);
         }
         self.branch.contradict(x)?;
@@ -44,7 +43,7 @@ impl Walk<'_, '_> {
 
     fn on_close(&mut self, claim: Claim) -> Result<Step, Fault>
         requires { Standing self.old }
-        ensures { Steps (λ I b. stepped I claim Record.Q b) self.old self.new result }
+        ensures { Steps (λ I b. closing claim b) self.old self.new result }
     {
         if !self.branch.can_close(claim) {
             return Err(Fault::NotClosable);
@@ -62,9 +61,10 @@ impl Walk<'_, '_> {
         ensures { Steps (λ I b. stepped I claim «record» b) self.old self.new result }
     {
         match record {
-            Record::E(number) => self.on_extend(number),
-            Record::C(x) => self.on_contradict(x),
+            Record::E(number) if !self.branch.is_dead() => self.on_extend(number),
+            Record::C(x) if !self.branch.is_dead() => self.on_contradict(x),
             Record::Q => self.on_close(claim),
+            Record::E(_) | Record::C(_) => Err(Fault::DeadBranch),
         }
     }
 }

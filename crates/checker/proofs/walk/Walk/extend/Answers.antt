@@ -3,7 +3,7 @@ use Rattle.instance.specs.Clause.{soft, Problem}
 use Rattle.instance.specs.Theorems.Weights.{meant_decoded}
 use Rattle.calculus.specs.Branch.{Branch, put}
 use Rattle.checker.proofs.Entering.{Poised, next_low, next_coded, coming}
-use Rattle.checker.proofs.Walks.{first, poised_first, frame_room, extended}
+use Rattle.checker.proofs.Walks.{poised_first, frame_room, extended}
 use Rattle.checker.proofs.walk.Walk.extend.Goals as goal
 use Rattle.checker.proofs.walk.Walk.extend.Goals.{After-spend}
 

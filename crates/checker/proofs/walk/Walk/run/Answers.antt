@@ -1,4 +1,4 @@
-use Rattle.std.proofs.Common.{◌≡◌, sym, rules, arith}
+use Rattle.std.proofs.Common.{◌≡◌, rules, arith}
 use Rattle.instance.specs.Faults.{numbered}
 use Rattle.instance.specs.Refusals.{staged}
 use Rattle.std.proofs.lemmas.Result.{err_from_is_err_and}

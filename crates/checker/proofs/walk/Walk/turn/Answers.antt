@@ -1,4 +1,4 @@
-use Rattle.std.proofs.Common.{List, ◌-◌, ◌≡◌, arith}
+use Rattle.std.proofs.Common.{List, ◌-◌, arith}
 use Rattle.instance.specs.Clause.{Problem}
 use Rattle.instance.specs.Theorems.Weights.{meant_decoded}
 use Rattle.journal.specs.Theorems.Stores.{rewound_length}
