@@ -11,7 +11,8 @@ use Rattle.branch.specs.declared.Branch as code
 use Rattle.branch.specs.Shows.{open_in}
 use Rattle.branch.specs.Works.{soft_at}
 use Rattle.branch.specs.Extensions.{Spent, Gained}
-use Rattle.branch.specs.Theorems.Stored.{soft_stored, soft_weight_lem}
+use Rattle.instance.specs.Theorems.Codes.{soft_weight_lem}
+use Rattle.branch.specs.Theorems.Stored.{soft_stored}
 use Rattle.branch.specs.Theorems.Extending.{Extensible, extending_open}
 use Rattle.checker.specs.declared.frames.Frame.{Frame}
 use Rattle.checker.specs.declared.frames.Frames.{Frames}

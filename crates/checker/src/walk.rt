@@ -50,7 +50,7 @@ impl Walk<'_, '_> {
 // The derivation after its claim: each record is taken in turn, from the root on.
 pub fn after_claim(
     held: &Held,
-    desk: Desk,
+    desk: &mut Desk,
     proof: &[u8],
     from: usize,
     claim: Claim,
@@ -58,12 +58,11 @@ pub fn after_claim(
     ensures { (I : Problem) → Given held.now.store.now held.now.counts.variables held.now.counts.clauses I
         → shown_by claim result ≡ walked I claim (items (drop from proof.now)) from 0 (calculus.root I.clauses ∷ []) }
 {
-    let Desk { cells, log, frames } = desk;
     let mut walk = Walk {
         held: *held,
-        branch: Branch::root(held, cells, log),
+        branch: Branch::root(held, &mut *desk.cells, &mut *desk.log),
         frames: Frames {
-            words: frames,
+            words: &mut *desk.frames,
             depth: 0,
         },
     };
