@@ -2,6 +2,7 @@
 use Rattle.std.proofs.Common.{suc, ◌+◌, ◌*◌, ◌-◌, ◌<◌, ◌≤◌, true, ℕ, List, ◌∷◌, ◌++◌, ◌≡◌, sym, ap, subst, ◌∙◌, arith, length, set}
 use Rattle.instance.specs.Clause.{soft, soft_of, Problem}
 use Rattle.instance.specs.Store.{start_in, end_in}
+use Rattle.instance.specs.Theorems.Codes.{soft_weight_lem}
 use Rattle.journal.specs.Undo.{Places, rewound}
 use Rattle.journal.specs.declared.Journal.{Journal}
 use Rattle.journal.specs.Theorems.Stores.{later_places, rewound_length}
@@ -11,7 +12,6 @@ use Rattle.branch.specs.declared.Branch as code
 use Rattle.branch.specs.Shows.{open_in}
 use Rattle.branch.specs.Works.{soft_at}
 use Rattle.branch.specs.Extensions.{Spent, Gained}
-use Rattle.instance.specs.Theorems.Codes.{soft_weight_lem}
 use Rattle.branch.specs.Theorems.Stored.{soft_stored}
 use Rattle.branch.specs.Theorems.Extending.{Extensible, extending_open}
 use Rattle.checker.specs.declared.frames.Frame.{Frame}

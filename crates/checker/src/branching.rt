@@ -31,6 +31,7 @@ impl Walk<'_, '_> {
         ensures { Turned self.old self.new }
     {
         let frame = self.frames.last();
+        // Lent first, since the journal lies within it.
         let branch = &mut self.branch;
         branch.journal.rewind(frame.height);
         let literal = self.held.literal_at(frame.next);

@@ -66,7 +66,7 @@ pub fn after_claim(
             depth: 0,
         },
     };
-    // The walk stays lent as long as a call at the end of the body.
+    // Not the last expression: the call would lend the walk past its end.
     let records = walk.run(proof, from, claim);
     records
 }

@@ -21,11 +21,10 @@ rewind-requires c =
     let (I, b, bs, s) = c.requires.standing in
     rewindable c.args.self.now s c.requires.deep c.last-frame.result c.last-frame.ensures
 
-pub invariant_of-branch : goal.invariant_of-branch
-invariant_of-branch c =
+pub invariant_of-branch-clause-enough_cells : goal.invariant_of-branch-clause-enough_cells
+invariant_of-branch-clause-enough_cells c =
     let self = c.args.self.now in
-    let cells = rewound_length self.branch.journal.cells.now self.branch.journal.log.now self.branch.journal.top c.last-frame.result.height in
-    record { enough_cells = rw (c.rewind.ensures.cells, cells) self.branch.enough_cells; enough_log = rw c.rewind.ensures.log self.branch.enough_log }
+    rw (c.rewind.ensures.cells, rewound_length self.branch.journal.cells.now self.branch.journal.log.now self.branch.journal.top c.last-frame.result.height) self.branch.enough_cells
 
 pub literal_at-literal-requires : goal.literal_at-literal-requires
 literal_at-literal-requires c = next_low (poised (goal.at.literal_at-literal-requires c).After-rewind).3
