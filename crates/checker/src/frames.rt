@@ -10,7 +10,7 @@ pub struct Frame {
     pub height: usize,
 }
 
-// The frames as they lie in lent memory, three words each. The last extension is on top.
+// The frames as they lie in lent memory, three words each: there is no heap. The last extension is on top.
 #[derive(Drop)]
 pub struct Frames<'a> {
     pub words: &'a mut [u64],

@@ -10,7 +10,7 @@ use calculus::Record;
 use instance::{Claim, Fault, Instance};
 
 // What a record that is not refused leaves: an open branch to go on with, or none.
-#[derive(Clone, Copy)]
+#[derive(Clone, Copy, Debug, PartialEq, Eq)]
 pub enum Step {
     GoesOn,
     AllClosed,

@@ -13,7 +13,8 @@ use crate::steps::Step;
 use branch::Branch;
 use instance::{Claim, Fault, Held, Stage};
 
-// The branch at work, and the frames of the other open branches.
+// The branch at work, and the frames of the other open branches. Which branches these are (`Standing`) is asked of each call: it is
+// data and no mere fact, and it does not hold in the middle of a step.
 #[derive(Drop)]
 pub struct Walk<'h, 'a> {
     pub held: Held<'h>,
@@ -30,6 +31,7 @@ impl Walk<'_, '_> {
         ensures { (I : Problem) (b : calculus.Branch) (bs : List calculus.Branch) → Stands I self.old b bs
             → shown_by claim result ≡ walked I claim (items (drop from proof.now)) from 0 (b ∷ bs) }
     {
+        // By hand: each record says where the next one begins.
         let mut at = from;
         let mut records = 0;
         while at < proof.len() {

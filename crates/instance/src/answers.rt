@@ -5,6 +5,9 @@ use crate::Instance;
 use crate::refusals::Stage;
 use std::fmt;
 
+// What the five questions answer. 01 names this form: an enum with a refused case that holds the stage. Below the questions a
+// `Result` does the same.
+
 // Survey: the numbers of the instance.
 #[derive(Clone, Copy, Debug, PartialEq, Eq)]
 pub enum Surveyed {

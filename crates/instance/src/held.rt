@@ -15,7 +15,8 @@ pub const FLAGS_AT: usize = 2000;
 
 pub const LITERALS_AT: usize = 3000;
 
-// A store that holds an instance, with the instance's numbers.
+// A store that holds an instance, with the instance's numbers. A clause goes by its index, whose bound each method asks for: a type
+// for the index would be made at each call.
 #[derive(Clone, Copy)]
 pub struct Held<'a> {
     pub store: &'a [u64],

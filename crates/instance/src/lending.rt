@@ -9,7 +9,8 @@ use crate::memory::clear;
 use crate::refusals::Stage;
 use crate::workspaces::STORE;
 
-// Works over the store, and leaves it as every question must; too small a store is a refusal.
+// Works over the store, and leaves it as every question must; too small a store is a refusal. What the work may count on, that the
+// store is long enough, stands in the clauses of those who are lent it: a struct for that one bound would be no plainer.
 pub fn over_store<T, F: FnOnce(&mut [u64]) -> Result<T, Stage>>(
     store: &mut [u64],
     work: F,

@@ -4,7 +4,7 @@
 ghost use Rattle.std.specs.Prelude.{◌≡◌, ◌+◌, ◌*◌, ◌<◌, ◌≤◌, length};
 ghost use Rattle.journal.specs.Undo.{Places, Put, rewound};
 
-// The cells, the log, and the log's height: how many entries it has.
+// The cells, the log, and the log's height: how many entries it has. Both lie in lent memory, since there is no heap.
 #[derive(Drop)]
 pub struct Journal<'a> {
     pub cells: &'a mut [u64],

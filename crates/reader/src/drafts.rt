@@ -15,7 +15,7 @@ pub struct Draft<'a> {
     store: &'a mut [u64],
     pub counts: Instance,
 
-    // How many literals of all clauses are in the store, and where, among them, those of the clause at work begin.
+    // How many literals of all clauses are in the store, which is lent, and where, among them, those of the clause at work begin.
     kept: usize,
     start: usize,
     ghost room: { store_size ≤ length store.now },

@@ -78,6 +78,7 @@ pub fn next_line(text: &[u8], from: usize) -> Token<'_>
     requires { from ≤ length text.now }
     ensures { LineAt text.now from result.place result.bytes.now }
 {
+    // By hand: each line says where the next one begins.
     let mut i = from;
     loop {
         let token = next_token(text, i);

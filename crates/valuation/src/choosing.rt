@@ -9,7 +9,8 @@ use crate::valuing::valued;
 use instance::{Held, Stage, Worth, over_store};
 use reader::read;
 
-// Which of the two lent assignments is handed back; neither stands for the empty part at the start of the first.
+// Which of the two lent assignments is handed back; neither stands for the empty part at the start of the first. An enum with all
+// three, since the definition `better_of` answers in it.
 #[derive(Clone, Copy, Debug, PartialEq, Eq)]
 pub enum Choice {
     First,

@@ -21,6 +21,7 @@ pub fn check(
         (desk store.new cells.new log.new frames.new) }
     ensures meant { Meant text.now bytes.now result }
 {
+    // Four workspaces, each of its own size: `over_store` has the one that the other questions share.
     if store.len() < STORE || cells.len() < CELLS || log.len() < LOG || frames.len() < FRAMES {
         return Checked::Refused(Fault::MemoryTooSmall.at(0));
     }
