@@ -18,6 +18,10 @@ pub struct Unread {
 }
 
 impl fmt::Display for Unread {
+    ghost use Rattle.std.specs.Prelude.{◌++◌, Some, codes};
+
+    ghost output = { λ unread. Some (codes "unread " ++ unread.name.now) };
+
     fn fmt<W: fmt::Write>(&self, f: &mut fmt::Formatter<W>) -> fmt::Result {
         write!(f, "unread {}", self.name)
     }

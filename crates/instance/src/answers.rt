@@ -59,6 +59,11 @@ pub enum Claim {
 }
 
 impl fmt::Display for Claim {
+    ghost use Rattle.std.specs.Prelude.{Some};
+    ghost use Rattle.instance.specs.Lines.{claim_words};
+
+    ghost output = { λ claim. Some (claim_words claim) };
+
     fn fmt<W: fmt::Write>(&self, f: &mut fmt::Formatter<W>) -> fmt::Result {
         match self {
             Claim::Minimum(m) => write!(f, "minimum {m}"),
@@ -87,6 +92,11 @@ impl From<Result<(Claim, usize), Stage>> for Checked {
 
 // `accepted minimum 2 steps 5`, `accepted infeasible steps 1`, or the refusal.
 impl fmt::Display for Checked {
+    ghost use Rattle.std.specs.Prelude.{Some};
+    ghost use Rattle.instance.specs.Lines.{checked_line};
+
+    ghost output = { λ answer. Some (checked_line answer) };
+
     fn fmt<W: fmt::Write>(&self, f: &mut fmt::Formatter<W>) -> fmt::Result {
         match self {
             Checked::Accepted(claim, steps) => write!(f, "accepted {claim} steps {steps}"),

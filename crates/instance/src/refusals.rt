@@ -27,14 +27,33 @@ pub fn refusal(number: u64, place: usize) -> Stage
     }
 }
 
-// `refused 18 at 19`: the number and the place, whatever the stage.
+impl Stage {
+    ghost use Rattle.instance.specs.Refusals.{number_of, place_of};
+
+    // The number and the place, whatever the stage.
+    #[tactic(auto, unfolding(crate::specs::Refusals::number_of, crate::specs::Refusals::place_of))]
+    fn parts(self) -> (u64, usize)
+        ensures { result ≡ (number_of self, place_of self) }
+    {
+        match self {
+            Stage::Memory(number, place)
+            | Stage::Text(number, place)
+            | Stage::Assignment(number, place)
+            | Stage::Derivation(number, place)
+            | Stage::Writing(number, place) => (number, place),
+        }
+    }
+}
+
+// `refused 18 at 19`.
 impl fmt::Display for Stage {
+    ghost use Rattle.std.specs.Prelude.{Some};
+    ghost use Rattle.instance.specs.Lines.{refusal_line};
+
+    ghost output = { λ stage. Some (refusal_line stage) };
+
     fn fmt<W: fmt::Write>(&self, f: &mut fmt::Formatter<W>) -> fmt::Result {
-        let (Stage::Memory(number, place)
-        | Stage::Text(number, place)
-        | Stage::Assignment(number, place)
-        | Stage::Derivation(number, place)
-        | Stage::Writing(number, place)) = self;
+        let (number, place) = self.parts();
         write!(f, "refused {number} at {place}")
     }
 }
