@@ -3,6 +3,7 @@ ghost use Rattle.instance.specs.Limits.{most_variables};
 ghost use Rattle.instance.specs.Memory.{cells_size};
 ghost use Rattle.instance.specs.Clause.{Clause};
 ghost use Rattle.calculus.specs.Branch as calculus;
+ghost use Rattle.journal.specs.Lent.{Remains};
 ghost use Rattle.branch.specs.Cells.{booked_at, marks_at};
 ghost use Rattle.branch.specs.Works.{Works};
 ghost use Rattle.branch.specs.Extensions.{Coded};
@@ -59,8 +60,9 @@ impl Branch<'_> {
     fn book(&mut self, p: usize, q: usize, s: Settlement)
         requires in_bounds { (p < cells_size) × (q < cells_size) × (2 * self.old.journal.top + 5 < length self.old.journal.log.now) }
         requires booking_fits { (booked_at < p) × (booked_at < q) × (get_or self.old.journal.cells.now booked_at 0 + s.booked < 2 ^ 64) }
-        ensures { Settled self.old.journal.cells.now self.old.journal.log.now self.old.journal.top p q s
+        ensures settled { Settled self.old.journal.cells.now self.old.journal.log.now self.old.journal.top p q s
             self.new.journal.cells.now self.new.journal.log.now self.new.journal.top }
+        ensures same_memory { Remains self.old.journal self.new.journal }
     {
         let total = self.journal.cells[BOOKED] + s.booked;
         self.journal.put(q, s.second);
@@ -72,9 +74,10 @@ impl Branch<'_> {
     pub fn contradict(&mut self, x: usize) -> Result<(), Fault>
         requires alive { Alive self.old.journal.cells.now self.old.journal.top }
         requires in_range { (1 ≤ x) × (x ≤ most_variables) }
-        ensures { (cs : List Clause) (d : ℕ) (b : calculus.Branch) → Works cs self.old.journal.cells.now self.old.journal.top d 0 b → b.dead ≡ false
+        ensures clashed { (cs : List Clause) (d : ℕ) (b : calculus.Branch) → Works cs self.old.journal.cells.now self.old.journal.top d 0 b → b.dead ≡ false
             → Clashed cs d self.old.journal.cells.now self.old.journal.log.now self.old.journal.top
             self.new.journal.cells.now self.new.journal.log.now self.new.journal.top result (calculus.contradict x b) }
+        ensures same_memory { Remains self.old.journal self.new.journal }
     {
         let p = 2 * x;
         let q = 2 * x + 1;

@@ -13,10 +13,13 @@ pub struct Journal<'a> {
 }
 
 impl<'a> Journal<'a> {
+    ghost use Rattle.journal.specs.Lent.{Remains};
+
     // Stores a value, with the old one kept in a new entry of the log.
     pub fn put(&mut self, place: usize, value: u64)
         requires { (place < length self.old.cells.now) × (2 * self.old.top + 1 < length self.old.log.now) }
-        ensures { Put self.old.cells.now self.old.log.now self.old.top place value self.new.cells.now self.new.log.now self.new.top }
+        ensures stored { Put self.old.cells.now self.old.log.now self.old.top place value self.new.cells.now self.new.log.now self.new.top }
+        ensures same_memory { Remains self.old self.new }
     {
         self.log[2 * self.top] = place as u64;
         self.log[2 * self.top + 1] = self.cells[place];
@@ -30,6 +33,7 @@ impl<'a> Journal<'a> {
         ensures cells { self.new.cells.now ≡ rewound self.old.cells.now self.old.log.now self.old.top height }
         ensures log { self.new.log.now ≡ self.old.log.now }
         ensures top { self.new.top ≡ height }
+        ensures same_memory { Remains self.old self.new }
     {
         for t in (height..self.top).rev() {
             let place = self.log[2 * t] as usize;

@@ -8,13 +8,13 @@ put-requires c =
     let (cs, d, b, h, alive) = c.requires.alive in
     (omega arith, omega (arith, kill_room h alive))
 
-pub returns-then-q_hard : goal.returns-then-q_hard
-returns-then-q_hard c cs d b h alive =
+pub returns-then-q_hard-clause-clashed : goal.returns-then-q_hard-clause-clashed
+returns-then-q_hard-clause-clashed c cs d b h alive =
     let (lo, hi) = c.requires.in_range in
-    clash_dead lo hi h c.is_hard-p_hard.ensures c.is_hard-q_hard.ensures alive c.if-p_hard.true c.if-q_hard.true c.put.ensures c.args.self.now.enough_log
+    clash_dead lo hi h c.is_hard-p_hard.ensures c.is_hard-q_hard.ensures alive c.if-p_hard.true c.if-q_hard.true c.put.ensures.stored c.args.self.now.enough_log
 
-pub returns-then-s-eq0 : goal.returns-then-s-eq0
-returns-then-s-eq0 c cs d b h alive =
+pub returns-then-s-eq0-clause-clashed : goal.returns-then-s-eq0-clause-clashed
+returns-then-s-eq0-clause-clashed c cs d b h alive =
     let (lo, hi) = c.requires.in_range in
     clash_nothing lo hi h c.is_hard-p_hard.ensures c.is_hard-q_hard.ensures _ c.else-p_hard.either c.settle-s.ensures _ c.if-s-eq0.true
 
@@ -34,7 +34,7 @@ book-requires-clause-booking_fits c =
     let small = clash_small lo hi h in
     (omega arith, omega arith, omega arith)
 
-pub returns : goal.returns
-returns c cs d b h alive =
+pub returns-clause-clashed : goal.returns-clause-clashed
+returns-clause-clashed c cs d b h alive =
     let (lo, hi) = c.requires.in_range in
-    clash_settled lo hi h c.is_hard-p_hard.ensures c.is_hard-q_hard.ensures _ c.else-p_hard.either c.settle-s.ensures c.if-s-eq0.false c.book.ensures
+    clash_settled lo hi h c.is_hard-p_hard.ensures c.is_hard-q_hard.ensures _ c.else-p_hard.either c.settle-s.ensures c.if-s-eq0.false c.book.ensures.settled

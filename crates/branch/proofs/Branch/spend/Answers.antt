@@ -7,8 +7,8 @@ put-requires c =
     let room = open_room _ _ _ c.requires.open_clause c.requires.in_range in
     (omega arith, omega arith)
 
-pub returns : goal.returns
-returns c =
+pub returns-clause-spent : goal.returns-clause-spent
+returns-clause-spent c =
     let self = c.args.self.now in
     let room = open_room _ _ _ c.requires.open_clause c.requires.in_range in
-    spends self.enough_cells (omega arith) c.requires.in_range c.put.ensures
+    spends self.enough_cells (omega arith) c.requires.in_range c.put.ensures.stored

@@ -10,6 +10,7 @@ loop-t-preserved c =
     let low = l.invariant.low in
     record {
       low = omega (arith, c.loop-t-test.true);
+      same = record { cells = l.invariant.same.cells; log = l.invariant.same.log };
       log = l.invariant.log;
       top = l.invariant.top;
       size = length-set _ _ _ ∙ l.invariant.size;

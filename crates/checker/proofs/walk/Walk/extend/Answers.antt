@@ -12,7 +12,7 @@ poised : (c : After-spend) → (I : Problem) × (b : Branch) × (bs : List Branc
     × Poised I c.args.self.now.held.store.now c.args.self.now.frames.words.now (record { clause = c.args.k; next = c.start_of-first.result; height = c.spend.new.self.journal.top }) c.spend.new.self.journal.cells.now c.spend.new.self.journal.log.now c.args.self.now.frames.depth b bs
 poised c =
     let (I, b, bs, s, can) = c.requires.extending in
-    (I, put (suc c.args.k) (soft 0) b, bs, rw c.start_of-first.ensures (poised_first c.args.self.now s c.args.k can c.spend.new.self c.spend.ensures))
+    (I, put (suc c.args.k) (soft 0) b, bs, rw c.start_of-first.ensures (poised_first c.args.self.now s c.args.k can c.spend.new.self c.spend.ensures.spent))
 
 pub overflow_add-first : goal.overflow_add-first
 overflow_add-first c = omega (arith, next_low (poised (goal.at.overflow_add-first c).After-spend).3)
@@ -20,7 +20,7 @@ overflow_add-first c = omega (arith, next_low (poised (goal.at.overflow_add-firs
 pub push-requires : goal.push-requires
 push-requires c =
     let (I, b, bs, s, can) = c.requires.extending in
-    frame_room c.args.self.now s c.args.k can c.spend.new.self c.spend.ensures
+    frame_room c.args.self.now s c.args.k can c.spend.new.self c.spend.ensures.spent
 
 pub literal_at-literal-requires : goal.literal_at-literal-requires
 literal_at-literal-requires c = next_low (poised (goal.at.literal_at-literal-requires c).After-spend).3
@@ -33,6 +33,6 @@ gain-requires-clause-in_range c = rw c.literal_at-literal.ensures (next_coded (p
 
 pub returns : goal.returns
 returns c I b bs s can =
-    extended c.args.self.now s c.args.k can c.spend.new.self c.spend.ensures c.gain.new.self
-    (rw (c.literal_at-literal.ensures, c.start_of-first.ensures, c.weight_of-weight.ensures, meant_decoded) at c.gain.ensures) c.push.new.self
+    extended c.args.self.now s c.args.k can c.spend.new.self c.spend.ensures.spent c.gain.new.self
+    (rw (c.literal_at-literal.ensures, c.start_of-first.ensures, c.weight_of-weight.ensures, meant_decoded) at c.gain.ensures.gained) c.push.new.self
     (rw c.start_of-first.ensures at c.push.ensures.words) c.push.ensures.depth

@@ -66,9 +66,9 @@ pub returns-in_err-contradict : goal.returns-in_err-contradict
 returns-in_err-contradict c I b bs s alive =
     let p = err_from_is_err_and c.from_residual.result c.from_residual.ensures.1 in
     rw (p.1, p.2, contradict_in I b _ c.if-x-eq0.false (rw s.given.variables at c.if-n-x.false))
-    (clash_stops c.args.self.now s c.contradict.new.self (contradict _ b) _ (c.in_err-contradict.ensures I.clauses _ b s.works alive))
+    (clash_stops c.args.self.now s c.contradict.new.self (contradict _ b) _ (c.in_err-contradict.ensures.clashed I.clauses _ b s.works alive))
 
 pub returns : goal.returns
 returns c I b bs s alive =
     rw (contradict_in I b _ c.if-x-eq0.false (rw s.given.variables at c.if-n-x.false))
-    (clash_moves c.args.self.now s c.contradict.new.self (contradict _ b) _ (c.in_ok-contradict.ensures I.clauses _ b s.works alive))
+    (clash_moves c.args.self.now s c.contradict.new.self (contradict _ b) _ (c.in_ok-contradict.ensures.clashed I.clauses _ b s.works alive))

@@ -51,11 +51,11 @@ overflow_add-frame-else-frame-end_of c = omega (arith, next_low (poised (goal.at
 pub returns-then-frame-end_of : goal.returns-then-frame-end_of
 returns-then-frame-end_of c I b bs s =
     turned_last c.args.self.now s c.requires.deep c.last-frame.result c.last-frame.ensures c.rewind.new.self c.rewind.ensures.cells c.rewind.ensures.log c.gain.new.self
-    (rw (c.rewind.ensures.top, c.literal_at-literal.ensures, c.weight_of-weight.ensures, meant_decoded) at c.gain.ensures) c.pop.new.self
+    (rw (c.rewind.ensures.top, c.literal_at-literal.ensures, c.weight_of-weight.ensures, meant_decoded) at c.gain.ensures.gained) c.pop.new.self
     (rw c.end_of.ensures at c.if-frame-end_of.true) c.pop.ensures.words c.pop.ensures.depth
 
 pub returns-else-frame-end_of : goal.returns-else-frame-end_of
 returns-else-frame-end_of c I b bs s =
     turned_more c.args.self.now s c.requires.deep c.last-frame.result c.last-frame.ensures c.rewind.new.self c.rewind.ensures.cells c.rewind.ensures.log c.gain.new.self
-    (rw (c.rewind.ensures.top, c.literal_at-literal.ensures, c.weight_of-weight.ensures, meant_decoded) at c.gain.ensures) c.advance.new.self
+    (rw (c.rewind.ensures.top, c.literal_at-literal.ensures, c.weight_of-weight.ensures, meant_decoded) at c.gain.ensures.gained) c.advance.new.self
     (rw c.end_of.ensures at c.if-frame-end_of.false) c.advance.ensures.words c.advance.ensures.depth
