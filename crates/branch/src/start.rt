@@ -11,7 +11,8 @@ use crate::{BOOKED, Branch, DEAD, MARKS, SHUTS};
 use instance::{CELLS, Held, Weight};
 use journal::Journal;
 
-// A soft weight goes to one cell; a hard clause sets another.
+// A soft weight goes to one cell; a hard clause sets another. The root's cells are filled before there is a branch with a log, so they go
+// alone here.
 #[tactic(auto, unfolding(crate::specs::Roots::given, instance::specs::Clause::soft_of))]
 fn give(cells: &mut [u64], mark: usize, sum: usize, weight: Weight)
     requires { (mark < length cells.old) × (sum < length cells.old) × (get_or cells.old sum 0 + soft_of (meant weight) < 2 ^ 64) }

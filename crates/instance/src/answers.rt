@@ -5,8 +5,8 @@ use crate::Instance;
 use crate::refusals::Stage;
 use std::fmt;
 
-// What the five questions answer. 01 names this form: an enum with a refused case that holds the stage. Below the questions a
-// `Result` does the same.
+// What the five questions answer: an enum each, with a refused case that holds the stage. The questions' definitions answer in them.
+// Below the questions a `Result` says the same.
 
 // Survey: the numbers of the instance.
 #[derive(Clone, Copy, Debug, PartialEq, Eq)]
@@ -26,7 +26,8 @@ impl From<Result<Instance, Stage>> for Surveyed {
     }
 }
 
-// The number of the first broken hard clause (0 if none), and the soft weight falsified.
+// The number of the first broken hard clause, and the soft weight falsified. The number is 0 if none is broken, as the definitions
+// `first_broken` and `beats` count.
 #[derive(Clone, Copy, Debug, Default, PartialEq, Eq)]
 pub struct Worth {
     pub first_broken: usize,

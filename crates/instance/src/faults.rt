@@ -4,7 +4,7 @@ ghost use Rattle.instance.specs.Faults.{numbered};
 
 use crate::refusals::{Stage, refusal};
 
-// Why a question is turned away: document 01's table, in its order.
+// Why a question is turned away, in the order of the refusals' numbers.
 #[derive(Clone, Copy, Debug, PartialEq, Eq)]
 pub enum Fault {
     MemoryTooSmall,

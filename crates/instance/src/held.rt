@@ -15,8 +15,8 @@ pub const FLAGS_AT: usize = 2000;
 
 pub const LITERALS_AT: usize = 3000;
 
-// A store that holds an instance, with the instance's numbers. A clause goes by its index, whose bound each method asks for: a type
-// for the index would be made at each call.
+// A store that holds an instance, with the instance's numbers. The parts of the store lie one behind the other in lent memory of
+// `u64`: there is no heap. A clause goes by its index, whose bound each method asks for as `v[i]` does.
 #[derive(Clone, Copy)]
 pub struct Held<'a> {
     pub store: &'a [u64],
@@ -25,9 +25,9 @@ pub struct Held<'a> {
 }
 
 impl<'a> Held<'a> {
-    // Where, among the kept literals, those of the clause of number k + 1 begin,
+    // Where, among the kept literals, those of the clause of number k + 1 begin.
     pub fn start_of(&self, k: usize) -> usize
-        requires { k < most_clauses }
+        requires { k ≤ length self.now.store.now }
         ensures { result ≡ start_in self.now.store.now k }
     {
         if k == 0 {
@@ -36,7 +36,7 @@ impl<'a> Held<'a> {
         self.store[k - 1] as usize
     }
 
-    // and the place after them.
+    // Where they end.
     pub fn end_of(&self, k: usize) -> usize
         requires { k < most_clauses }
         ensures { result ≡ end_in self.now.store.now k }
@@ -51,6 +51,7 @@ impl<'a> Held<'a> {
         Weight::from(self.store[WEIGHTS_AT + k])
     }
 
+    // The store keeps a word for it, which is 1 for a tautology.
     pub fn is_tautology(&self, k: usize) -> bool
         requires { k < self.now.counts.clauses }
         ensures { result ≡ tautology (literals_in self.now.store.now k) }

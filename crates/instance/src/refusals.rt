@@ -3,7 +3,7 @@ ghost use Rattle.instance.specs.Refusals.{staged};
 
 use std::fmt;
 
-// A refusal: its stage and, inside, its number and its place, as 01 names the form.
+// A refusal: its stage and, inside, its number and its place.
 #[derive(Clone, Copy, Debug, PartialEq, Eq)]
 pub enum Stage {
     Memory(u64, usize),

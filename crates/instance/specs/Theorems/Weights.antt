@@ -30,10 +30,6 @@ unfolding weight_of
 meant_decoded zero = refl
 meant_decoded (suc c) = refl
 
-pub coded_decoded : (c : ℕ) → coded (decoded c) ≡ c
-coded_decoded zero = refl
-coded_decoded (suc c) = refl
-
 pub soft_meant : (w : code.Weight) → soft_of (meant w) ≡ coded w
 unfolding soft_of
 soft_meant Hard = refl
