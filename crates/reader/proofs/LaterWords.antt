@@ -1,17 +1,17 @@
 -- What a later token of a clause says, by what the code learns of its sign and its number.
-use Rattle.std.specs.Prelude.{ℕ, suc, ◌+◌, ◌*◌, ◌-◌, ◌<◌, ◌≤◌, true, false, List, [], ◌∷◌, ◌≡◌, leb, ltb, length, get_or, take, drop, Option, Some, None, Result, Ok, Err}
+use Rattle.std.specs.Prelude.{ℕ, suc, ◌+◌, ◌*◌, ◌-◌, ◌<◌, ◌≤◌, Bool, true, false, List, [], ◌∷◌, ◌≡◌, leb, ltb, length, get_or, take, drop, Option, Some, None, Result, Ok, Err}
+use Rattle.std.specs.Int.{from_bool}
 use Rattle.std.specs.Option.{ok_or}
-use Rattle.std.proofs.Common.{sym, ap, subst, ◌∙◌, arith, eq-eqb, ne_eqb, le-leb, lt-ltb, le-ltb}
+use Rattle.std.proofs.Common.{sym, ap, refl, subst, ◌∙◌, arith, eq-eqb, ne_eqb, le-leb, lt-ltb, le-ltb}
 use Rattle.std.proofs.lemmas.Bool.{lt-leb}
 use Rattle.std.proofs.lemmas.List.{take_all}
 use Rattle.std.proofs.Math.Option.{some, none}
 use Rattle.std.proofs.Math.Option as math
-use Rattle.std.proofs.Math.Path.{fun_ext}
 use Rattle.instance.specs.Limits.{most_variables, most_literals}
 use Rattle.instance.specs.Clause.{Literal, pos, neg, variable_of}
 use Rattle.instance.specs.Faults.{numbered}
 use Rattle.instance.specs.Store.{literal_of, code_of}
-use Rattle.instance.specs.Theorems.Codes.{literal_code, variable_in}
+use Rattle.instance.specs.Theorems.Codes.{literal_code}
 use Rattle.instance.specs.declared.faults.Fault.{Fault}
 use Rattle.instance.specs.declared.faults.Fault.TheVariants.{VariableTooLarge}
 use Rattle.reader.specs.Numbers.{zero_digit, decimal}
@@ -65,30 +65,35 @@ module _ (written : ℕ) (sign : ℕ → Literal) where
       (λ e h. rw (e, signed, lt-ltb most_variables v (omega (arith, variable x)), literal_says))
       (λ e h. rw (e, signed, le-ltb most_variables v (omega (arith, variable x)), literal_says))
 
--- ---- a literal, by its sign: 1 for the opposite
-abbrev pub coded : ℕ → ℕ → Literal
-coded sign x = literal_of (2 * x + sign)
+-- ---- a literal, by its sign
+abbrev pub signs : Bool → ℕ → Literal
+signs true = neg
+signs false = pos
 
-coded_variable : (sign : ℕ) → sign < 2 → (x : ℕ) → variable_of (coded sign x) ≡ x
-coded_variable sign h x = variable_in (2 * x + sign) ∙ omega arith
+pub sign_coded : (is_opposite : Bool) (x : ℕ) → literal_of (2 * x + from_bool is_opposite) ≡ signs is_opposite x
+unfolding code_of
+sign_coded true x = literal_code (neg x)
+sign_coded false x = ap literal_of (omega arith) ∙ literal_code (pos x)
 
-signed_as : (f g : ℕ → Literal) (t : List ℕ) → ((x : ℕ) → f x ≡ g x) → signed f t ≡ signed g t
-signed_as f g t h = ap (λ (sign : ℕ → Literal). signed sign t) (fun_ext h)
+pub sign_small : (is_opposite : Bool) → from_bool is_opposite < 2
+sign_small true = omega arith
+sign_small false = omega arith
+
+sign_variable : (is_opposite : Bool) (x : ℕ) → variable_of (signs is_opposite x) ≡ x
+unfolding variable_of
+sign_variable true x = refl
+sign_variable false x = refl
 
 spelled_minus : (t : List ℕ) → 0 < length t → get_or t 0 0 ≡ minus
-    → literal_spelled t ≡ signed (coded 1) (take (length t - 1) (drop 1 t))
-unfolding literal_spelled code_of
+    → literal_spelled t ≡ signed neg (take (length t - 1) (drop 1 t))
+unfolding literal_spelled
 spelled_minus [] h e = absurd (omega arith)
-spelled_minus (b ∷ bs) h e =
-    rw (eq-eqb b minus e, literal_spelled, take_all (suc (length bs) - 1) bs (omega arith))
-    (signed_as neg (coded 1) bs (λ x. sym (literal_code (neg x))))
+spelled_minus (b ∷ bs) h e = rw (eq-eqb b minus e, literal_spelled, take_all (suc (length bs) - 1) bs (omega arith))
 
-spelled_plain : (t : List ℕ) → 0 < length t → (get_or t 0 0 ≡ minus → ⊥) → literal_spelled t ≡ signed (coded 0) t
-unfolding literal_spelled code_of
+spelled_plain : (t : List ℕ) → 0 < length t → (get_or t 0 0 ≡ minus → ⊥) → literal_spelled t ≡ signed pos t
+unfolding literal_spelled
 spelled_plain [] h n = absurd (omega arith)
-spelled_plain (b ∷ bs) h n =
-    rw (ne_eqb b minus n, literal_spelled)
-    (signed_as pos (coded 0) (b ∷ bs) (λ x. sym (ap literal_of (omega arith) ∙ literal_code (pos x))))
+spelled_plain (b ∷ bs) h n = rw (ne_eqb b minus n, literal_spelled)
 
 -- ---- the token
 pub later_ends : (written : ℕ) (t : List ℕ) → alone zero_digit t ≡ true → ends ≡ later_word written t
@@ -96,25 +101,22 @@ unfolding later_word
 later_ends written t e = rw (e, later_word)
 
 -- a token that is not the end has these digits and this sign
-pub record Signed (t digits : List ℕ) (sign : ℕ) : Type 0 where
-  pub small : sign < 2
-  pub said : (written : ℕ) → later_word written t ≡ literal_by written (coded sign) (number_of most_variables digits)
+abbrev pub Signed : List ℕ → List ℕ → Bool → Type 0
+Signed t digits is_opposite =
+    (written : ℕ) → later_word written t ≡ literal_by written (signs is_opposite) (number_of most_variables digits)
 
 module _ (t : List ℕ) (some : 0 < length t) where
-  literal_signed : (digits : List ℕ) (sign : ℕ) → sign < 2 → alone zero_digit t ≡ false
-      → literal_spelled t ≡ signed (coded sign) digits → Signed t digits sign
+  literal_signed : (digits : List ℕ) (is_opposite : Bool) → alone zero_digit t ≡ false
+      → literal_spelled t ≡ signed (signs is_opposite) digits → Signed t digits is_opposite
   unfolding later_word literal_says
-  literal_signed digits sign small more e = record {
-    small = small;
-    said = λ written.
-        rw (more, later_word)
-        (ap (literal_says written) e ∙ sym (literal_said written (coded sign) (coded_variable sign small) digits));
-  }
+  literal_signed digits is_opposite more e written =
+      rw (more, later_word)
+      (ap (literal_says written) e ∙ sym (literal_said written (signs is_opposite) (sign_variable is_opposite) digits))
 
-  pub signed_minus : get_or t 0 0 ≡ minus → Signed t (take (length t - 1) (drop 1 t)) 1
+  pub signed_minus : get_or t 0 0 ≡ minus → Signed t (take (length t - 1) (drop 1 t)) true
   signed_minus e =
-      literal_signed (take (length t - 1) (drop 1 t)) 1 (omega arith) (not_alone zero_digit t (λ _ f. omega arith))
+      literal_signed (take (length t - 1) (drop 1 t)) true (not_alone zero_digit t (λ _ f. omega arith))
       (spelled_minus t some e)
 
-  pub signed_plain : (get_or t 0 0 ≡ minus → ⊥) → (length t ≡ 1 → get_or t 0 0 ≡ zero_digit → ⊥) → Signed t t 0
-  signed_plain n more = literal_signed t 0 (omega arith) (not_alone zero_digit t more) (spelled_plain t some n)
+  pub signed_plain : (get_or t 0 0 ≡ minus → ⊥) → (length t ≡ 1 → get_or t 0 0 ≡ zero_digit → ⊥) → Signed t t false
+  signed_plain n more = literal_signed t false (not_alone zero_digit t more) (spelled_plain t some n)

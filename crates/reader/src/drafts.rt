@@ -15,7 +15,8 @@ pub struct Draft<'a> {
     store: &'a mut [u64],
     pub counts: Instance,
 
-    // How many literals of all clauses are in the store, which is lent, and where, among them, those of the clause at work begin.
+    // How many literals of all clauses are kept, and where those of the clause at work begin among them. Both stand beside the lent
+    // store because there is no heap, whose lists would know their own lengths.
     kept: usize,
     start: usize,
     ghost room: { store_size ≤ length store.now },
@@ -44,13 +45,15 @@ impl<'a> Draft<'a> {
         }
     }
 
-    // A clause begins: its weight, and no tautology so far.
+    // A clause begins: its weight, and no tautology so far. This, `keep` and `close` ask that a clause is left: not every
+    // draft has one, since the most clauses may be done.
     pub fn begin(&mut self, weight: Weight)
         requires clause_left { self.old.counts.clauses < most_clauses }
         requires weight_left { self.old.counts.total + coded weight ≤ most_weight }
         ensures { Begins self.old weight self.new }
     {
         self.store[WEIGHTS_AT + self.counts.clauses] = u64::from(weight);
+        // A flag is 0 or 1, not a `bool`, since the store is lent memory of `u64`.
         self.store[FLAGS_AT + self.counts.clauses] = 0;
         self.counts.total += u64::from(weight);
         self.start = self.kept;

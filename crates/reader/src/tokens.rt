@@ -3,7 +3,8 @@ ghost use Rattle.std.specs.Prelude.{ℕ, ◌≡◌, ◌+◌, ◌<◌, ◌≤◌,
 ghost use Rattle.reader.specs.Lines.{blank, in_token};
 ghost use Rattle.reader.specs.Spans.{in_line, past, TokenAt, LineAt};
 
-// A token with the place of its first byte; empty where the line has no more.
+// A token with the place of its first byte. An empty one stands for none, where the line has no more: it still has a place,
+// the line's end, which the refusal of a clause without end tells.
 #[derive(Clone, Copy)]
 pub struct Token<'a> {
     pub place: usize,
@@ -52,7 +53,8 @@ fn span<F: Fn(u8) -> bool>(bytes: &[u8], is_of_kind: F) -> usize
     bytes.iter().take_while(|b| is_of_kind(**b)).count()
 }
 
-// The next token of the line, past the blanks.
+// The next token of the line, past the blanks. This and the functions after it ask that `from` lies in the text: it is
+// the bound of an index, as `&text[from..]` asks it.
 pub fn next_token(text: &[u8], from: usize) -> Token<'_>
     requires { from ≤ length text.now }
     ensures { TokenAt text.now from result.place result.bytes.now }

@@ -39,14 +39,14 @@ pub fn later_word(token: &[u8], written: usize) -> Result<Option<u64>, Fault>
     requires { 0 < length token.now }
     ensures { word_says result ≡ later_word written token.now }
 {
-    let (digits, sign) = match token {
+    let (digits, is_opposite) = match token {
         b"0" => return Ok(None),
-        [b'-', digits @ ..] => (digits, 1),
-        digits => (digits, 0),
+        [b'-', digits @ ..] => (digits, true),
+        digits => (digits, false),
     };
     let variable = read_number(digits, Instance::VARIABLES)?.ok_or(Fault::VariableTooLarge)?;
     if written >= Instance::LITERALS {
         return Err(Fault::TooManyLiterals);
     }
-    Ok(Some(2 * variable + sign))
+    Ok(Some(2 * variable + u64::from(is_opposite)))
 }
