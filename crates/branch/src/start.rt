@@ -1,4 +1,4 @@
-ghost use Rattle.std.specs.Prelude.{List, ◌≡◌, ℕ, suc, ◌+◌, ◌<◌, ◌≤◌, ◌^◌, length, get_or};
+ghost use Rattle.std.specs.Prelude.{◌≡◌, suc, ◌+◌, ◌<◌, ◌≤◌, ◌^◌, length, get_or};
 ghost use Rattle.instance.specs.Memory.{cells_size, log_size};
 ghost use Rattle.instance.specs.Clause.{Problem, soft_of};
 ghost use Rattle.instance.specs.Weights.{meant};
@@ -11,8 +11,8 @@ use crate::{BOOKED, Branch, DEAD, MARKS, SHUTS};
 use instance::{CELLS, Held, Weight};
 use journal::Journal;
 
-// A soft weight goes to one cell; a hard clause sets another. The root's cells are filled before there is a branch with a log, so they go
-// alone here.
+// A soft weight goes to one cell; a hard clause sets another. The root's cells are filled before there is a branch with a log, so
+// they go alone here.
 #[tactic(auto, unfolding(crate::specs::Roots::given, instance::specs::Clause::soft_of))]
 fn give(cells: &mut [u64], mark: usize, sum: usize, weight: Weight)
     requires { (mark < length cells.old) × (sum < length cells.old) × (get_or cells.old sum 0 + soft_of (meant weight) < 2 ^ 64) }

@@ -5,8 +5,8 @@ use crate::Instance;
 use crate::refusals::Stage;
 use std::fmt;
 
-// What the five questions answer: an enum each, with a refused case that holds the stage. The questions' definitions answer in them.
-// Below the questions a `Result` says the same.
+// What the five questions answer: an enum each, with a refused case that holds the stage. The questions' definitions answer in
+// them. Below the questions a `Result` says the same.
 
 // Survey: the numbers of the instance.
 #[derive(Clone, Copy, Debug, PartialEq, Eq)]

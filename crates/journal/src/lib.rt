@@ -4,8 +4,9 @@
 ghost use Rattle.std.specs.Prelude.{◌≡◌, ◌+◌, ◌*◌, ◌<◌, ◌≤◌, length};
 ghost use Rattle.journal.specs.Undo.{Places, Put, rewound};
 
-// The cells, the log, and the log's height: how many entries it has. Both lie in lent memory, since there is no heap. What a call does is
-// a relation of the state before and the one after, which no invariant can say; the laws of these relations speak of the lists.
+// The cells, the log, and the log's height: how many entries it has. Both lie in lent memory, since there is no heap. What a call
+// does is a relation of the state before and the one after, which no invariant can say; the laws of these relations speak of the
+// lists.
 #[derive(Drop)]
 pub struct Journal<'a> {
     pub cells: &'a mut [u64],

@@ -31,8 +31,8 @@ impl Choice {
     }
 }
 
-// Whether a worth comes before another: hard clauses first, then the weight. It is no `Ord`: two that break hard clauses tie, whatever
-// they weigh.
+// Whether a worth comes before another: hard clauses first, then the weight. It is no `Ord`: two that break hard clauses tie,
+// whatever they weigh.
 #[tactic(auto, unfolding(crate::specs::Better::beats))]
 fn comes_before(this: Worth, other: Worth) -> bool
     ensures { result ≡ beats this.first_broken this.falsified other.first_broken other.falsified }
