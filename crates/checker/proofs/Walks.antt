@@ -131,7 +131,7 @@ module _ {I : Problem} (w : Walk) {b : Branch} {bs : List Branch} (s : Stands I 
         turned_more n words depth =
             let (state, rest, open_is, p) = poised_last in
             let more = p.waits.more in
-            let room : 3 * (w.frames.depth - 1) + 1 < length w.frames.words.now = omega (arith, p.waits.works.deep, w.frames.enough_words) in (
+            let room : 3 * (w.frames.depth - 1) + 1 < length w.frames.words.now = omega (arith, w.frames.fits) in (
               next_branch w.held.store.now f state,
               branches_from w.held.store.now (passed f) state ++ rest,
               rw (branches_more p) at open_is,

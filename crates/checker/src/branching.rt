@@ -31,7 +31,7 @@ impl Walk<'_, '_> {
         ensures { Turned self.old self.new }
     {
         let frame = self.frames.last();
-        // Lent first, since the journal lies within it.
+        // A struct within `self` has to be lent before its journal is used.
         let branch = &mut self.branch;
         branch.journal.rewind(frame.height);
         let literal = self.held.literal_at(frame.next);

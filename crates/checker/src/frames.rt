@@ -16,6 +16,7 @@ pub struct Frames<'a> {
     pub words: &'a mut [u64],
     pub depth: usize,
     ghost enough_words: { frames_size ≤ length words.now },
+    ghost fits: { 3 * depth ≤ length words.now },
 }
 
 impl Frames<'_> {
@@ -34,7 +35,7 @@ impl Frames<'_> {
     }
 
     pub fn last(&self) -> Frame
-        requires { (1 ≤ self.now.depth) × (3 * self.now.depth ≤ length self.now.words.now) }
+        requires { 1 ≤ self.now.depth }
         ensures { result ≡ frame_at self.now.words.now (self.now.depth - 1) }
     {
         let place = 3 * (self.depth - 1);
@@ -47,7 +48,7 @@ impl Frames<'_> {
 
     // Sets the last frame's next literal.
     pub fn advance(&mut self, next: usize)
-        requires { (1 ≤ self.old.depth) × (3 * self.old.depth ≤ length self.old.words.now) }
+        requires { 1 ≤ self.old.depth }
         ensures words { self.new.words.now ≡ set self.old.words.now (3 * (self.old.depth - 1) + 1) next }
         ensures depth { self.new.depth ≡ self.old.depth }
     {

@@ -60,6 +60,7 @@ impl Walk<'_, '_> {
         requires { Standing self.old }
         ensures { Steps (λ I b. stepped I claim «record» b) self.old self.new result }
     {
+        // A match, since records are an enum of three kinds.
         match record {
             Record::E(number) if !self.branch.is_dead() => self.on_extend(number),
             Record::C(x) if !self.branch.is_dead() => self.on_contradict(x),

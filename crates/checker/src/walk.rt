@@ -1,10 +1,11 @@
-ghost use Rattle.std.specs.Prelude.{List, [], ◌∷◌, ◌≡◌, ◌≤◌, length, drop};
+ghost use Rattle.std.specs.Prelude.{List, [], ◌∷◌, ◌≡◌, drop};
 ghost use Rattle.instance.specs.Clause.{Problem};
 ghost use Rattle.instance.specs.Answers.{shown_by};
 ghost use Rattle.instance.specs.Store.{Given};
 ghost use Rattle.calculus.specs.Branch as calculus;
 ghost use Rattle.calculus.specs.Derivation.{walk as walked};
 ghost use Rattle.derivation.specs.Bytes.{items};
+ghost use Rattle.checker.specs.Desks.{Remains};
 
 use crate::desk::Desk;
 use crate::frames::Frames;
@@ -57,8 +58,9 @@ pub fn after_claim(
     from: usize,
     claim: Claim,
 ) -> Result<usize, Stage>
-    ensures { (I : Problem) → Given held.now.store.now held.now.counts.variables held.now.counts.clauses I
+    ensures shown { (I : Problem) → Given held.now.store.now held.now.counts.variables held.now.counts.clauses I
         → shown_by claim result ≡ walked I claim (items (drop from proof.now)) from 0 (calculus.root I.clauses ∷ []) }
+    ensures same_memory { Remains desk.old desk.new }
 {
     let mut walk = Walk {
         held: *held,

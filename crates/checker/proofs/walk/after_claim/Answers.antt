@@ -26,6 +26,6 @@ run-records-requires c =
     let given = given_in held.store.now held.counts held.holds in
     (_, root _, [], stands_first _ _ _ given (c.root.ensures.works _ given.stored given.clauses) c.root.ensures.height refl)
 
-pub returns : goal.returns
-returns c I given =
+pub returns-clause-shown : goal.returns-clause-shown
+returns-clause-shown c I given =
     c.run-records.ensures I (root I.clauses) [] (stands_first I _ _ given (c.root.ensures.works I given.stored given.clauses) c.root.ensures.height refl)

@@ -39,10 +39,10 @@ returns-in_err-records c =
     let exit = err_from_is_err_and c.from_residual-in_err-records.result c.from_residual-in_err-records.ensures.1 in
     let claim = sym c.in_ok-claim.ensures.ok_part ∙ c.claim_of.ensures in
     rw (exit.1, exit.2)
-    (c.in_err-records.ensures lies.problem lies.given ∙ claim_followed _ lies.problem _ _ claim ∙ c.in_ok-check_assignment.ensures _ lies.problem lies.given ∙ claim_checked _ _ _ _ claim _ _ lies.reads)
+    (c.in_err-records.ensures.shown lies.problem lies.given ∙ claim_followed _ lies.problem _ _ claim ∙ c.in_ok-check_assignment.ensures _ lies.problem lies.given ∙ claim_checked _ _ _ _ claim _ _ lies.reads)
 
 pub returns : goal.returns
 returns c =
     let lies = read_lies _ _ _ _ c.read.ensures _ c.in_ok-counts.was in
     let claim = sym c.in_ok-claim.ensures.ok_part ∙ c.claim_of.ensures in
-    c.in_ok-records.ensures lies.problem lies.given ∙ claim_followed _ lies.problem _ _ claim ∙ c.in_ok-check_assignment.ensures _ lies.problem lies.given ∙ claim_checked _ _ _ _ claim _ _ lies.reads
+    c.in_ok-records.ensures.shown lies.problem lies.given ∙ claim_followed _ lies.problem _ _ claim ∙ c.in_ok-check_assignment.ensures _ lies.problem lies.given ∙ claim_checked _ _ _ _ claim _ _ lies.reads
