@@ -1,8 +1,5 @@
 -- A number of four bytes.
-use Rattle.std.specs.Prelude.{◌^◌, ◌<◌}
-use Rattle.asking.specs.declared.numbers.Number.{Number}
-use Rattle.asking.specs.declared.numbers.Number.TheVariants.{Is, Ended}
+use Rattle.std.specs.Prelude.{ℕ, ◌^◌, ◌<◌, Option, IfSome}
 
-abbrev pub Below : Number → Type 0
-Below (Is n) = n < 2 ^ 32
-Below Ended = Unit {0}
+abbrev pub Below : Option ℕ → Type 0
+Below result = IfSome result (λ number. number < 2 ^ 32)

@@ -1,65 +1,42 @@
-ghost use Rattle.std.specs.Prelude.{◌≡◌, ◌≤◌, ◌<◌, length};
-ghost use Rattle.asking.specs.Arguments.{Within};
+ghost use Rattle.std.specs.Prelude.{◌≡◌, length, IfOk, Err};
+ghost use Rattle.asking.specs.Arguments.{Within, Takes, IsOver};
 
-use crate::numbers::{Number, next_number};
+use crate::numbers::next_number;
+use std::io;
 use std::io::Read;
 
-// An argument's length, where the memory lent for it holds it and the input has it whole.
-#[derive(Clone, Copy)]
-pub enum Argument {
-    Whole(usize),
+// Why there is no argument: the memory lent for it is too small, or the input ends before it does.
+#[derive(Clone, Copy, Debug, PartialEq, Eq)]
+pub enum ArgumentError {
     TooLong,
     Ended,
 }
 
-// How many of the bytes left are passed at once.
-fn stride(left: u64) -> usize
-    requires { 0 < left }
-    ensures { (0 < result) × (result ≤ 4096) × (result ≤ left) }
-{
-    if left < 4096 { left as usize } else { 4096 }
-}
-
-// Passes over some bytes of the input: whether it had so many.
-fn pass_some(input: &mut impl Read, chunk: &mut [u8], many: usize) -> bool
-    requires { many ≤ length chunk.old }
-    ensures { length chunk.new ≡ length chunk.old }
-{
-    input.read_exact(&mut chunk[..many]).is_ok()
-}
-
 // Passes over bytes of the input: whether it had so many.
 fn pass(input: &mut impl Read, many: u64) -> bool {
-    let mut space = [0u8; 4096];
-    let chunk: &mut [u8] = &mut space;
-    let mut left = many;
-    while 0 < left {
-        let n = stride(left);
-        if pass_some(input, chunk, n) {
-            left -= n as u64;
-        } else {
-            return false;
-        }
-    }
-    true
+    io::copy(&mut input.take(many), &mut io::sink()).is_ok_and(|passed| passed == many)
 }
 
-// The next argument, into the memory lent for it.
-pub fn next_argument(input: &mut impl Read, room: &mut [u8]) -> Argument
-    ensures { Within (length room.new) result }
+// The next argument, in the part of the lent memory that holds it.
+pub fn next_argument<'a, R: Read>(
+    input: &mut R,
+    room: &'a mut [u8],
+) -> Result<&'a [u8], ArgumentError>
+    ensures within { Within (length room.old) result }
+    ensures read { IfOk result (λ argument. Takes (R.remaining input.old) (R.remaining input.new) argument.now) }
+    ensures too_long { result ≡ Err ArgumentError.TooLong → IsOver (length room.old) (R.remaining input.old) }
 {
-    let Number::Is(many) = next_number(input) else {
-        return Argument::Ended;
-    };
+    let many = next_number(input).ok_or(ArgumentError::Ended)?;
     if (room.len() as u64) < many {
-        if pass(input, many) {
-            return Argument::TooLong;
-        }
-        return Argument::Ended;
+        return Err(if pass(input, many) {
+            ArgumentError::TooLong
+        } else {
+            ArgumentError::Ended
+        });
     }
-    let n = many as usize;
-    if input.read_exact(&mut room[..n]).is_err() {
-        return Argument::Ended;
-    }
-    Argument::Whole(n)
+    let argument = &mut room[..many as usize];
+    input
+        .read_exact(argument)
+        .map_err(|_| ArgumentError::Ended)?;
+    Ok(argument)
 }

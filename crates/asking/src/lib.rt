@@ -4,5 +4,5 @@
 mod arguments;
 mod numbers;
 
-pub use arguments::{Argument, next_argument};
-pub use numbers::{Byte, Number, next_byte, next_number};
+pub use arguments::{ArgumentError, next_argument};
+pub use numbers::{next_byte, next_number};

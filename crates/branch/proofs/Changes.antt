@@ -11,10 +11,10 @@ use Rattle.branch.proofs.Literals.{same_self, same_other}
 use Rattle.branch.proofs.Clauses.{put_here, put_there, put_remain, remain_length, keep_here, keep_there, keep_shut, keep_remain}
 use Rattle.branch.proofs.Stores.{shows_set}
 
-module _ (cs : List Clause) (cells : List ℕ) (b : Branch) (h : Shows cs cells b) where
+module _ {cs : List Clause} {cells : List ℕ} {b : Branch} (h : Shows cs cells b) where
   pub shows_weight : (l : Literal) → In most_variables l → (v : ℕ) → Shows cs (set cells (at (weight l)) v) (set_weight l v b)
   unfolding has set_weight
-  shows_weight l i v = shows_set cs cs cells b (set_weight l v b) (weight l) v h i (rw (same_self l, has)) there h.rules
+  shows_weight l i v = shows_set h (set_weight l v b) (weight l) v i (rw (same_self l, has)) there h.rules
     where
       there : (d : Cell) → (d ≡ weight l → ⊥) → has (set_weight l v b) d ≡ has b d
       there booked n = refl
@@ -25,7 +25,7 @@ module _ (cs : List Clause) (cells : List ℕ) (b : Branch) (h : Shows cs cells 
 
   pub shows_mark : (l : Literal) → In most_variables l → Shows cs (set cells (at (marked l)) 1) (mark l b)
   unfolding has mark flag_of
-  shows_mark l i = shows_set cs cs cells b (mark l b) (marked l) 1 h i (rw (same_self l, has)) there h.rules
+  shows_mark l i = shows_set h (mark l b) (marked l) 1 i (rw (same_self l, has)) there h.rules
     where
       there : (d : Cell) → (d ≡ marked l → ⊥) → has (mark l b) d ≡ has b d
       there booked n = refl
@@ -36,7 +36,7 @@ module _ (cs : List Clause) (cells : List ℕ) (b : Branch) (h : Shows cs cells 
 
   pub shows_book : (v : ℕ) → Shows cs (set cells (at booked) (b.booked + v)) (book v b)
   unfolding has book
-  shows_book v = shows_set cs cs cells b (book v b) booked (b.booked + v) h tt refl there h.rules
+  shows_book v = shows_set h (book v b) booked (b.booked + v) tt refl there h.rules
     where
       there : (d : Cell) → (d ≡ booked → ⊥) → has (book v b) d ≡ has b d
       there booked n = absurd (n refl)
@@ -47,7 +47,7 @@ module _ (cs : List Clause) (cells : List ℕ) (b : Branch) (h : Shows cs cells 
 
   pub shows_kill : Shows cs (set cells (at dead) 1) (kill b)
   unfolding has kill flag_of
-  shows_kill = shows_set cs cs cells b (kill b) dead 1 h tt refl there h.rules
+  shows_kill = shows_set h (kill b) dead 1 tt refl there h.rules
     where
       there : (d : Cell) → (d ≡ dead → ⊥) → has (kill b) d ≡ has b d
       there booked n = refl
@@ -60,7 +60,7 @@ module _ (cs : List Clause) (cells : List ℕ) (b : Branch) (h : Shows cs cells 
   pub shows_spent : (k : ℕ) → k < most_clauses → Shows cs (set cells (at (shut k)) 1) (put (suc k) (soft 0) b)
   unfolding has put with_rules flag_of
   shows_spent k lt =
-      shows_set cs cs cells b (put (suc k) (soft 0) b) (shut k) 1 h lt (rw (put_here b.rules k)) there (put_remain cs b.rules (suc k) h.rules)
+      shows_set h (put (suc k) (soft 0) b) (shut k) 1 lt (rw (put_here b.rules k)) there (put_remain cs b.rules (suc k) h.rules)
     where
       there : (d : Cell) → (d ≡ shut k → ⊥) → has (put (suc k) (soft 0) b) d ≡ has b d
       there booked n = refl
@@ -92,7 +92,7 @@ module _ (cs : List Clause) (cells : List ℕ) (b : Branch) (h : Shows cs cells 
     pub shows_keep_open : extendable d ≡ true → Shows (cs ++ (c ∷ [])) (set cells (at (shut (length cs))) 0) (keep d.weight d.body b)
     unfolding has keep with_rules flag_of
     shows_keep_open e =
-        shows_set cs (cs ++ (c ∷ [])) cells b (keep d.weight d.body b) (shut (length cs)) 0 h few
+        shows_set h (keep d.weight d.body b) (shut (length cs)) 0 few
         (rw (rules_count, keep_here b.rules d, e)) there (keep_remain cs b.rules c d h.rules left)
       where
         there : (k : Cell) → (k ≡ shut (length cs) → ⊥) → has (keep d.weight d.body b) k ≡ has b k

@@ -1,34 +1,32 @@
--- A contradiction: its stores, case by case, as the calculus has them.
-use Rattle.std.proofs.Common.{ℕ, zero, suc, ◌+◌, ◌*◌, ◌-◌, ◌<◌, ◌≤◌, min, Bool, true, false, ◌&&◌, List, ◌≡◌, refl, ap, sym, ◌∙◌, arith, lt-ltb, le-ltb, eqb, length, get_or, set, length-set, get_or-set_other}
-use Rattle.std.proofs.Math.Option.{Option, some, none}
-use Rattle.std.proofs.Math.Decide.{dec_lt, ℕ_discrete}
-use Rattle.std.proofs.Math.Seq.{set-get_or}
+-- A contradiction: its stores, and what the calculus has of them.
+use Rattle.std.proofs.Common.{Ok, Err, ◌⊎◌, ⊎_elim, ℕ, ◌+◌, ◌*◌, ◌-◌, ◌<◌, ◌≤◌, min, Bool, true, false, List, ◌≡◌, refl, ap, sym, ◌∙◌, arith, lt-ltb, le-ltb, eqb, length, get_or, set, length-set, get_or-set_other}
+use Rattle.std.proofs.Math.Option.{some, none}
 use Rattle.instance.specs.Limits.{most_variables, most_weight}
 use Rattle.instance.specs.Memory.{cells_size, log_size}
 use Rattle.instance.specs.Clause.{Literal, pos, neg, same, variable_of, Clause}
 use Rattle.instance.specs.Within.{In}
-use Rattle.instance.specs.Store.{code_of, flag_of}
+use Rattle.instance.specs.Store.{code_of}
+use Rattle.instance.specs.Theorems.Choices.{on_test, never}
+use Rattle.instance.specs.declared.faults.Fault.TheVariants.{NothingToContradict}
 use Rattle.journal.specs.Undo.{Put}
 use Rattle.journal.specs.Theorems.Stores.{later_put, later_join}
-use Rattle.calculus.specs.Branch.{Branch, set_weight, book, kill, spend, cancel_by, contradict_by, contradict}
+use Rattle.calculus.specs.Branch.{Branch, set_weight, book, spend, cancel_by, contradict_by, contradict}
 use Rattle.branch.specs.Cells.{Cell, booked, weight, booked_at, dead_at, marks_at, at}
-use Rattle.branch.specs.Shows.{Shows}
 use Rattle.branch.specs.Works.{sum, entries_of, extensions_of, weights_of, most_entries, Works}
 use Rattle.branch.specs.Contradictions.{Settles, Settled, settled_in, Clashed}
-use Rattle.branch.specs.declared.contradiction.Clash.TheVariants.{Done, Nothing}
 use Rattle.branch.specs.declared.contradiction.Settlement.{Settlement}
-use Rattle.branch.proofs.Stores.{sum_part, sum_set}
+use Rattle.branch.proofs.Literals.{same_true}
+use Rattle.branch.proofs.Stores.{sum_set}
 use Rattle.branch.proofs.Changes.{shows_weight, shows_book}
-use Rattle.branch.proofs.Readings.{booked_is, weight_is, mark_is}
-use Rattle.branch.proofs.Rules.{three, kill_room, works_kill}
+use Rattle.branch.proofs.Readings.{booked_is, weight_is, mark_test}
+use Rattle.branch.proofs.Rules.{weight_entries, kill_room, works_kill}
 
 -- ---- the stores
-pub settled : (cells log : List ℕ) (top p q : ℕ) (s : Settlement) (cells₁ log₁ cells₂ log₂ cells' log' : List ℕ) (t₁ t₂ top' : ℕ)
-    → cells_size ≤ length cells → p < cells_size → q < cells_size → 2 * top + 5 < length log
+pub settled : {cells log cells₁ log₁ cells₂ log₂ cells' log' : List ℕ} {top t₁ t₂ top' p q : ℕ} {s : Settlement}
     → Put cells log top q s.second cells₁ log₁ t₁ → Put cells₁ log₁ t₁ p s.first cells₂ log₂ t₂
     → Put cells₂ log₂ t₂ booked_at (get_or cells booked_at 0 + s.booked) cells' log' top'
-    → Settled cells log top p q s cells' log' top'
-settled cells log top p q s cells₁ log₁ cells₂ log₂ cells' log' t₁ t₂ top' size lp lq room a b c =
+    → cells_size ≤ length cells → p < cells_size → q < cells_size → 2 * top + 5 < length log → Settled cells log top p q s cells' log' top'
+settled {cells} {p = p} {s = s} a b c size lp lq room =
     let la = later_put a (omega arith) (omega arith) in
     let ha = a.height in
     let lb = later_put b (omega (arith, la.same_cells)) (omega (arith, la.same_log)) in
@@ -41,72 +39,12 @@ settled cells log top p q s cells₁ log₁ cells₂ log₂ cells' log' t₁ t�
       later = later_join (later_join la lb) lc;
     }
 
--- no more is booked than there is
-pub booked_most : (a b p q : ℕ) (s : Settlement) → Settles a b p q s → s.booked ≤ a + b
-booked_most a b p q s h = go (ℕ_discrete p 1) (ℕ_discrete q 1)
-  where
-    go : Dec (p ≡ 1) → Dec (q ≡ 1) → s.booked ≤ a + b
-    go (yes e) u = omega (arith, (h.first_hard e).0)
-    go (no n) (yes e) = omega (arith, (h.second_hard n e).0)
-    go (no n) (no m) = omega (arith, (h.both_soft n m).0)
-
--- ---- the entries of a weight
-some_entries : (l : Literal) (v : ℕ) → 0 < v → entries_of (weight l) v ≡ 3
-unfolding entries_of
-some_entries l zero lt = absurd (omega arith)
-some_entries l (suc v) lt = refl
-
-no_entries : (l : Literal) (v : ℕ) → v ≡ 0 → entries_of (weight l) v ≡ 0
-unfolding entries_of
-no_entries l zero e = refl
-no_entries l (suc v) e = absurd (omega arith)
-
-module _ (x : ℕ) (lo : 1 ≤ x) (hi : x ≤ most_variables) where
-  p_in : In most_variables (pos x)
-  unfolding variable_of
-  p_in = (lo, hi)
-
-  q_in : In most_variables (neg x)
-  unfolding variable_of
-  q_in = (lo, hi)
-
-  -- the sums after three stores
-  sums : (cells : List ℕ) → cells_size ≤ length cells → (second first total : ℕ) (f : Cell → ℕ → ℕ)
-      → sum f (set (set (set cells (2 * x + 1) second) (2 * x) first) booked_at total)
-      + (f (weight (neg x)) (get_or cells (2 * x + 1) 0) + f (weight (pos x)) (get_or cells (2 * x) 0) + f booked (get_or cells booked_at 0))
-      ≡ sum f cells + (f (weight (neg x)) second + f (weight (pos x)) first + f booked total)
-  unfolding at code_of
-  sums cells size second first total f =
-      let cells₁ : List ℕ = set cells (2 * x + 1) second in
-      let cells₂ : List ℕ = set cells₁ (2 * x) first in
-      let size₁ : cells_size ≤ length cells₁ = rw length-set size in
-      let size₂ : cells_size ≤ length cells₂ = rw length-set size₁ in
-      let p : get_or cells₁ (2 * x) 0 ≡ get_or cells (2 * x) 0 = get_or-set_other cells (2 * x + 1) (2 * x) second 0 (λ e. omega arith) in
-      let b : get_or cells₂ booked_at 0 ≡ get_or cells booked_at 0 =
-      get_or-set_other cells₁ (2 * x) booked_at first 0 (λ e. omega arith) ∙ get_or-set_other cells (2 * x + 1) booked_at second 0 (λ e. omega arith)
-      in
-      omega (
-        arith,
-        sum_set cells size (weight (neg x)) q_in second f,
-        rw p at (sum_set cells₁ size₁ (weight (pos x)) p_in first f),
-        rw b at (sum_set cells₂ size₂ booked tt total f),
-      )
-
-  -- the weights that take part are part of the whole weight
-  pub clash_small : (cs : List Clause) (cells : List ℕ) (b : Branch) (top d : ℕ) → Works cs cells top d 0 b
-      → get_or cells booked_at 0 + (get_or cells (2 * x) 0 + get_or cells (2 * x + 1) 0) ≤ most_weight
-  unfolding weights_of
-  clash_small cs cells b top d h = omega (arith, sums cells h.shows.size 0 0 0 (weights_of cs))
-
-  -- one of the weights is not 0
-  pub clash_room : (cs : List Clause) (cells : List ℕ) (b : Branch) (top d : ℕ) → Works cs cells top d 0 b
-      → 0 < get_or cells (2 * x) 0 + get_or cells (2 * x + 1) 0 → top + 3 ≤ most_entries
-  unfolding at code_of
-  clash_room cs cells b top d h lt = go (get_or cells (2 * x) 0) refl
-    where
-      go : (a : ℕ) → get_or cells (2 * x) 0 ≡ a → top + 3 ≤ most_entries
-      go zero e = omega (arith, some_entries (neg x) (get_or cells (2 * x + 1) 0) (omega arith), sum_part entries_of cells (weight (neg x)) q_in)
-      go (suc a) e = omega (arith, some_entries (pos x) (get_or cells (2 * x) 0) (omega arith), sum_part entries_of cells (weight (pos x)) p_in)
+-- A settlement makes no weight, and what it books spends one of the two.
+pub frees : {a b : ℕ} {p q : Bool} {s : Settlement} → Settles a b p q s
+    → (s.booked + s.first + s.second ≤ a + b) × (0 < s.booked → min s.first 1 + min s.second 1 + 1 ≤ min a 1 + min b 1)
+frees {p = true} st = let f = st.first_hard refl in (omega arith, λ lt. omega arith)
+frees {p = false} {q = true} st = let f = st.second_hard refl refl in (omega arith, λ lt. omega arith)
+frees {p = false} {q = false} st = let f = st.both_soft refl refl in (omega arith, λ lt. omega arith)
 
 -- ---- the rules of the calculus, by their tests
 spend_some : (l : Literal) (b : Branch) → 0 < b.weight l → spend l b ≡ some (book (b.weight l) (set_weight l 0 b))
@@ -125,187 +63,145 @@ cancel_none : (x s : ℕ) (b : Branch) → s ≡ 0 → cancel_by x s b ≡ none
 unfolding cancel_by
 cancel_none x s b e = rw (le-ltb 0 s (omega arith), cancel_by)
 
--- ---- the cases
--- What a settlement frees: no weight is made, and the entries of one weight are.
-abbrev Frees : ℕ → ℕ → ℕ → Settlement → Type 0
-Frees x p q s =
-    (s.booked + s.first + s.second ≤ p + q)
-    × (entries_of (weight (pos x)) s.first + entries_of (weight (neg x)) s.second + 3 ≤ entries_of (weight (pos x)) p + entries_of (weight (neg x)) q)
-
-frees_first : (x p q : ℕ) (s : Settlement) → s.booked ≡ q → s.first ≡ p → s.second ≡ 0 → 0 < q → Frees x p q s
-frees_first x p q s eb ef es lt =
-    (omega arith, omega (arith, ap (entries_of (weight (pos x))) ef, no_entries (neg x) s.second es, some_entries (neg x) q lt))
-
-frees_second : (x p q : ℕ) (s : Settlement) → s.booked ≡ p → s.first ≡ 0 → s.second ≡ q → 0 < p → Frees x p q s
-frees_second x p q s eb ef es lt =
-    (omega arith, omega (arith, ap (entries_of (weight (neg x))) es, no_entries (pos x) s.first ef, some_entries (pos x) p lt))
-
-frees_both : (x p q : ℕ) (s : Settlement) → s.booked ≡ min p q → s.first ≡ p - min p q → s.second ≡ q - min p q → 0 < min p q → Frees x p q s
-frees_both x p q s eb ef es lt = (omega arith, go (dec_lt p q))
+-- a weight that is set to what it is
+set_same : (l : Literal) (b : Branch) (v : ℕ) → v ≡ b.weight l → set_weight l v b ≡ b
+unfolding set_weight
+set_same l b v e = λ i. record { weight = λ k. go k i; marked = b.marked; rules = b.rules; booked = b.booked; dead = b.dead }
   where
-    all : entries_of (weight (pos x)) p + entries_of (weight (neg x)) q ≡ 6
-    all = omega (arith, some_entries (pos x) p (omega arith), some_entries (neg x) q (omega arith))
+    go : (k : Literal) → elim (same k l) as (λ _. ℕ) [ true ↦ v | false ↦ b.weight k ] ≡ b.weight k
+    go k = on_test (λ n. n ≡ b.weight k) (same k l) (λ t. e ∙ ap b.weight (sym (same_true k l t))) (λ t. refl)
 
-    go : Dec (p < q) → entries_of (weight (pos x)) s.first + entries_of (weight (neg x)) s.second + 3 ≤ entries_of (weight (pos x)) p + entries_of (weight (neg x)) q
-    go (yes l) = omega (arith, all, no_entries (pos x) s.first (omega arith), three (neg x) s.second)
-    go (no n) = omega (arith, all, no_entries (neg x) s.second (omega arith), three (pos x) s.first)
+other_side : (x v : ℕ) (b : Branch) → b.weight (pos x) ≡ (set_weight (neg x) v b).weight (pos x)
+unfolding set_weight same
+other_side x v b = refl
 
-module _ (x : ℕ) (lo : 1 ≤ x) (hi : x ≤ most_variables) (cs : List Clause) (cells : List ℕ) (b : Branch) where
-  p_mark : Shows cs cells b → get_or cells (marks_at + 2 * x) 0 ≡ flag_of (b.marked (pos x))
+-- the branch that a settlement leaves
+abbrev settled_by : ℕ → Settlement → Branch → Branch
+settled_by x s b = book s.booked (set_weight (pos x) s.first (set_weight (neg x) s.second b))
+
+-- The calculus leaves that branch, unless nothing is booked.
+module _ (x : ℕ) (b : Branch) (s : Settlement) where
+  settled_some : (t u : Bool) → ((t ≡ true) × (u ≡ false) ⊎ (t ≡ false)) → Settles (b.weight (pos x)) (b.weight (neg x)) t u s → 0 < s.booked
+      → contradict_by t u x b ≡ some (settled_by x s b)
+  unfolding contradict_by
+  settled_some true true n st lt = ⊎_elim (λ w. never w.1) never n
+  settled_some true false n st lt =
+      let (eb, ef, es) = st.first_hard refl in
+      rw (eb, es, set_same (pos x) (set_weight (neg x) 0 b) s.first (ef ∙ other_side x 0 b)) (spend_some (neg x) b (omega arith))
+  settled_some false true n st lt =
+      let (eb, ef, es) = st.second_hard refl refl in
+      rw (eb, ef, set_same (neg x) b s.second es) (spend_some (pos x) b (omega arith))
+  settled_some false false n st lt =
+      let (eb, ef, es) = st.both_soft refl refl in
+      rw (eb, ef, es) (cancel_some x (min (b.weight (pos x)) (b.weight (neg x))) b (omega arith))
+
+  settled_none : (t u : Bool) → ((t ≡ true) × (u ≡ false) ⊎ (t ≡ false)) → Settles (b.weight (pos x)) (b.weight (neg x)) t u s → s.booked ≡ 0
+      → contradict_by t u x b ≡ none
+  unfolding contradict_by
+  settled_none true true n st z = ⊎_elim (λ w. never w.1) never n
+  settled_none true false n st z = spend_none (neg x) b (omega (arith, st.first_hard refl))
+  settled_none false true n st z = spend_none (pos x) b (omega (arith, st.second_hard refl refl))
+  settled_none false false n st z = cancel_none x _ b (omega (arith, st.both_soft refl refl))
+
+-- ---- the variable x in the cells
+module _ {x : ℕ} (lo : 1 ≤ x) (hi : x ≤ most_variables) {cs : List Clause} {cells : List ℕ} {b : Branch} {top d : ℕ} (h : Works cs cells top d 0 b) where
+  abbrev p_weight : ℕ
+  p_weight = get_or cells (2 * x) 0
+
+  abbrev q_weight : ℕ
+  q_weight = get_or cells (2 * x + 1) 0
+
+  p_in : In most_variables (pos x)
+  unfolding variable_of
+  p_in = (lo, hi)
+
+  q_in : In most_variables (neg x)
+  unfolding variable_of
+  q_in = (lo, hi)
+
+  p_is : p_weight ≡ b.weight (pos x)
   unfolding code_of
-  p_mark h = mark_is cs cells b h (pos x) (p_in x lo hi)
+  p_is = weight_is h.shows (pos x) p_in
 
-  q_mark : Shows cs cells b → get_or cells (marks_at + (2 * x + 1)) 0 ≡ flag_of (b.marked (neg x))
+  q_is : q_weight ≡ b.weight (neg x)
   unfolding code_of
-  q_mark h = mark_is cs cells b h (neg x) (q_in x lo hi)
+  q_is = weight_is h.shows (neg x) q_in
 
-  abbrev both_hard : Bool
-  both_hard = eqb (get_or cells (marks_at + 2 * x) 0) 1 && eqb (get_or cells (marks_at + (2 * x + 1)) 0) 1
-
-  both_kill : Shows cs cells b → both_hard ≡ true → contradict x b ≡ some (kill b)
-  unfolding contradict contradict_by flag_of
-  both_kill h = rw (p_mark h, q_mark h) (go (b.marked (pos x)) (b.marked (neg x)))
-    where
-      never : (o : Option Branch) → ◌≡◌ {A = Bool} false true → o ≡ some (kill b)
-      never o e = cc
-
-      go : (t u : Bool) → (eqb (flag_of t) 1 && eqb (flag_of u) 1) ≡ true → contradict_by t u x b ≡ some (kill b)
-      go true true e = refl
-      go true false e = never _ e
-      go false true e = never _ e
-      go false false e = never _ e
-
-  pub clash_dead : (log cells' log' : List ℕ) (top d t : ℕ) → Works cs cells top d 0 b → b.dead ≡ false → both_hard ≡ true
-      → Put cells log top dead_at 1 cells' log' t → log_size ≤ length log → Clashed cs d cells log top cells' log' (Done t) (contradict x b)
-  unfolding at
-  clash_dead log cells' log' top d t h alive both p room =
+  -- the sums after three stores
+  sums : (second first total : ℕ) (f : Cell → ℕ → ℕ)
+      → sum f (set (set (set cells (2 * x + 1) second) (2 * x) first) booked_at total)
+      + (f (weight (neg x)) q_weight + f (weight (pos x)) p_weight + f booked (get_or cells booked_at 0))
+      ≡ sum f cells + (f (weight (neg x)) second + f (weight (pos x)) first + f booked total)
+  unfolding at code_of
+  sums second first total f =
       let size = h.shows.size in
-      rw (both_kill h.shows both)
-      (rw (p.stored, p.height) (works_kill cs cells b top d h alive), later_put p (omega arith) (omega (arith, kill_room cs cells b top d h alive)))
+      let cells₁ : List ℕ = set cells (2 * x + 1) second in
+      let cells₂ : List ℕ = set cells₁ (2 * x) first in
+      let size₁ : cells_size ≤ length cells₁ = rw length-set size in
+      let size₂ : cells_size ≤ length cells₂ = rw length-set size₁ in
+      let p : get_or cells₁ (2 * x) 0 ≡ get_or cells (2 * x) 0 = get_or-set_other cells (2 * x + 1) (2 * x) second 0 (λ e. omega arith) in
+      let b : get_or cells₂ booked_at 0 ≡ get_or cells booked_at 0 =
+      get_or-set_other cells₁ (2 * x) booked_at first 0 (λ e. omega arith) ∙ get_or-set_other cells (2 * x + 1) booked_at second 0 (λ e. omega arith)
+      in
+      omega (
+        arith,
+        sum_set cells size (weight (neg x)) q_in second f,
+        rw p at (sum_set cells₁ size₁ (weight (pos x)) p_in first f),
+        rw b at (sum_set cells₂ size₂ booked tt total f),
+      )
 
-  -- a weight that is stored anew changes nothing
-  kept : (cells' : List ℕ) (b' : Branch) → Shows cs cells' b' → (l : Literal) → In most_variables l → (v : ℕ) → v ≡ b'.weight l → set cells' (code_of l) v ≡ cells'
-  kept cells' b' h l i v e = ap (set cells' (code_of l)) (e ∙ sym (weight_is cs cells' b' h l i)) ∙ set-get_or cells' (code_of l) 0
+  -- the weights that take part are part of the whole weight
+  pub clash_small : get_or cells booked_at 0 + (p_weight + q_weight) ≤ most_weight
+  unfolding weights_of
+  clash_small = omega (arith, sums 0 0 0 (weights_of cs))
 
-  module _ (s : Settlement) (h : Shows cs cells b) where
-    abbrev after : List ℕ
-    after = settled_in cells (2 * x) (2 * x + 1) s
+  -- one of the weights is not 0
+  pub clash_room : 0 < p_weight + q_weight → top + 3 ≤ most_entries
+  unfolding entries_of
+  clash_room lt = omega (arith, sums 0 0 0 entries_of, weight_entries (pos x) p_weight, weight_entries (neg x) q_weight)
 
-    total : (cells₂ : List ℕ) (b₂ : Branch) (m : ℕ) → Shows cs cells₂ b₂ → b₂.booked ≡ b.booked → s.booked ≡ m
-        → Shows cs (set cells₂ booked_at (get_or cells booked_at 0 + s.booked)) (book m b₂)
-    unfolding at
-    total cells₂ b₂ m h₂ e f = rw (booked_is cs cells b h, ← e, f) (shows_book cs cells₂ b₂ h₂ m)
+  -- ---- by which of the two literals are hard
+  module _ {p_hard q_hard : Bool} (p_read : p_hard ≡ eqb (get_or cells (marks_at + 2 * x) 0) 1) (q_read : q_hard ≡ eqb (get_or cells (marks_at + (2 * x + 1)) 0) 1) where
+    p_marked : p_hard ≡ b.marked (pos x)
+    unfolding code_of
+    p_marked = p_read ∙ mark_test h.shows (pos x) p_in
 
-    shows_first : s.booked ≡ b.weight (neg x) → s.first ≡ b.weight (pos x) → s.second ≡ 0 → Shows cs after (book (b.weight (neg x)) (set_weight (neg x) 0 b))
-    unfolding at code_of set_weight same
-    shows_first eb ef es =
-        let b₁ : Branch = set_weight (neg x) 0 b in
-        let h₁ : Shows cs (set cells (2 * x + 1) s.second) b₁ = rw es (shows_weight cs cells b h (neg x) (q_in x lo hi) 0) in
-        rw (kept _ b₁ h₁ (pos x) (p_in x lo hi) s.first ef) (total _ b₁ (b.weight (neg x)) h₁ refl eb)
+    q_marked : q_hard ≡ b.marked (neg x)
+    unfolding code_of
+    q_marked = q_read ∙ mark_test h.shows (neg x) q_in
 
-    shows_second : s.booked ≡ b.weight (pos x) → s.first ≡ 0 → s.second ≡ b.weight (neg x) → Shows cs after (book (b.weight (pos x)) (set_weight (pos x) 0 b))
-    unfolding at code_of set_weight
-    shows_second eb ef es =
-        rw (kept cells b h (neg x) (q_in x lo hi) s.second es, ef)
-        (total _ (set_weight (pos x) 0 b) (b.weight (pos x)) (shows_weight cs cells b h (pos x) (p_in x lo hi) 0) refl eb)
-
-    shows_both : (m : ℕ) → s.booked ≡ m → s.first ≡ b.weight (pos x) - m → s.second ≡ b.weight (neg x) - m
-        → Shows cs after (book m (set_weight (pos x) (b.weight (pos x) - m) (set_weight (neg x) (b.weight (neg x) - m) b)))
-    unfolding at code_of set_weight
-    shows_both m eb ef es =
-        let b₁ : Branch = set_weight (neg x) (b.weight (neg x) - m) b in
-        let h₁ = shows_weight cs cells b h (neg x) (q_in x lo hi) (b.weight (neg x) - m) in
-        rw (ef, es) (total _ (set_weight (pos x) (b.weight (pos x) - m) b₁) m (shows_weight cs _ b₁ h₁ (pos x) (p_in x lo hi) (b.weight (pos x) - m)) refl eb)
-
-  module _ (top d : ℕ) (h : Works cs cells top d 0 b) (s : Settlement) where
-    works_settled : (b' : Branch) → Shows cs (settled_in cells (2 * x) (2 * x + 1) s) b' → Frees x (get_or cells (2 * x) 0) (get_or cells (2 * x + 1) 0) s
-        → Works cs (settled_in cells (2 * x) (2 * x + 1) s) (top + 3) d 0 b'
-    unfolding entries_of extensions_of weights_of
-    works_settled b' shown (fw, fe) =
+    pub clash_dead : {log cells' log' : List ℕ} {t : ℕ} → b.dead ≡ false → p_hard ≡ true → q_hard ≡ true → Put cells log top dead_at 1 cells' log' t
+        → log_size ≤ length log → Clashed cs d cells log top cells' log' t (Ok tt) (contradict x b)
+    unfolding at contradict contradict_by
+    clash_dead alive p q put room =
         let size = h.shows.size in
-        let total : ℕ = get_or cells booked_at 0 + s.booked in
-        record {
-          shows = shown;
-          room = omega (arith, sums x lo hi cells size s.second s.first total entries_of);
-          deep = omega (arith, sums x lo hi cells size s.second s.first total extensions_of);
-          light = omega (arith, sums x lo hi cells size s.second s.first total (weights_of cs));
-        }
+        rw (← p_marked, ← q_marked, p, q)
+        (rw (put.stored, put.height) (works_kill h alive), later_put put (omega arith) (omega (arith, kill_room h alive)))
 
-    -- what the calculus says of a settlement: there is none where nothing is booked
-    abbrev Meets : Option Branch → Type 0
-    Meets none = s.booked ≡ 0
-    Meets (some b') = (s.booked ≡ 0 → ⊥) × Works cs (settled_in cells (2 * x) (2 * x + 1) s) (top + 3) d 0 b'
+    module _ (s : Settlement) (soft : (p_hard ≡ true) × (q_hard ≡ false) ⊎ (p_hard ≡ false)) (st : Settles p_weight q_weight p_hard q_hard s) where
+      meant : Settles (b.weight (pos x)) (b.weight (neg x)) p_hard q_hard s
+      meant = rw (p_is, q_is) at st
 
-    p_is : get_or cells (2 * x) 0 ≡ b.weight (pos x)
-    unfolding code_of
-    p_is = weight_is cs cells b h.shows (pos x) (p_in x lo hi)
+      works_settled : 0 < s.booked → Works cs (settled_in cells (2 * x) (2 * x + 1) s) (top + 3) d 0 (settled_by x s b)
+      unfolding at code_of set_weight entries_of extensions_of weights_of
+      works_settled lt =
+          let total : ℕ = get_or cells booked_at 0 + s.booked in
+          let second = shows_weight h.shows (neg x) q_in s.second in
+          let first = shows_weight second (pos x) p_in s.first in
+          let (most, fewer) = frees st in
+          record {
+            shows = rw (booked_is h.shows) (shows_book first s.booked);
+            room = omega (arith, h.room, sums s.second s.first total entries_of, fewer lt, weight_entries (pos x) p_weight, weight_entries (neg x) q_weight, weight_entries (pos x) s.first, weight_entries (neg x) s.second);
+            deep = omega (arith, h.deep, sums s.second s.first total extensions_of);
+            light = omega (arith, h.light, sums s.second s.first total (weights_of cs), most);
+          }
 
-    q_is : get_or cells (2 * x + 1) 0 ≡ b.weight (neg x)
-    unfolding code_of
-    q_is = weight_is cs cells b h.shows (neg x) (q_in x lo hi)
+      pub clash_nothing : (log : List ℕ) → s.booked ≡ 0 → Clashed cs d cells log top cells log top (Err NothingToContradict) (contradict x b)
+      unfolding contradict
+      clash_nothing log z = rw (← p_marked, ← q_marked, settled_none x b s _ _ soft meant z) (refl, refl, refl, refl)
 
-    meets_first : s.booked ≡ get_or cells (2 * x + 1) 0 → s.first ≡ get_or cells (2 * x) 0 → s.second ≡ 0 → Meets (spend (neg x) b)
-    meets_first eb ef es = go (dec_lt 0 (b.weight (neg x)))
-      where
-        go : Dec (0 < b.weight (neg x)) → Meets (spend (neg x) b)
-        go (yes lt) =
-            rw (spend_some (neg x) b lt)
-            (λ z. omega (arith, q_is), works_settled _ (shows_first s h.shows (eb ∙ q_is) (ef ∙ p_is) es) (frees_first x _ _ s eb ef es (omega (arith, q_is))))
-        go (no n) = rw (spend_none (neg x) b (omega arith)) (omega (arith, q_is))
-
-    meets_second : s.booked ≡ get_or cells (2 * x) 0 → s.first ≡ 0 → s.second ≡ get_or cells (2 * x + 1) 0 → Meets (spend (pos x) b)
-    meets_second eb ef es = go (dec_lt 0 (b.weight (pos x)))
-      where
-        go : Dec (0 < b.weight (pos x)) → Meets (spend (pos x) b)
-        go (yes lt) =
-            rw (spend_some (pos x) b lt)
-            (λ z. omega (arith, p_is), works_settled _ (shows_second s h.shows (eb ∙ p_is) ef (es ∙ q_is)) (frees_second x _ _ s eb ef es (omega (arith, p_is))))
-        go (no n) = rw (spend_none (pos x) b (omega arith)) (omega (arith, p_is))
-
-    meets_both : s.booked ≡ min (get_or cells (2 * x) 0) (get_or cells (2 * x + 1) 0)
-        → s.first ≡ get_or cells (2 * x) 0 - min (get_or cells (2 * x) 0) (get_or cells (2 * x + 1) 0)
-        → s.second ≡ get_or cells (2 * x + 1) 0 - min (get_or cells (2 * x) 0) (get_or cells (2 * x + 1) 0)
-        → Meets (cancel_by x (min (b.weight (pos x)) (b.weight (neg x))) b)
-    meets_both eb ef es = go (dec_lt 0 (min (b.weight (pos x)) (b.weight (neg x))))
-      where
-        go : Dec (0 < min (b.weight (pos x)) (b.weight (neg x))) → Meets (cancel_by x (min (b.weight (pos x)) (b.weight (neg x))) b)
-        go (yes lt) =
-            rw (cancel_some x _ b lt) (
-              λ z. omega (arith, p_is, q_is),
-              works_settled _ (shows_both s h.shows _ (rw (p_is, q_is) at eb) (rw (p_is, q_is) at ef) (rw (p_is, q_is) at es))
-                  (frees_both x _ _ s eb ef es (omega (arith, p_is, q_is))),
-            )
-        go (no n) = rw (cancel_none x (min (b.weight (pos x)) (b.weight (neg x))) b (omega arith)) (omega (arith, p_is, q_is))
-
-    meets : both_hard ≡ false
-        → Settles (get_or cells (2 * x) 0) (get_or cells (2 * x + 1) 0) (get_or cells (marks_at + 2 * x) 0) (get_or cells (marks_at + (2 * x + 1)) 0) s
-        → Meets (contradict x b)
-    unfolding contradict contradict_by flag_of
-    meets = rw (p_mark h.shows, q_mark h.shows) (go (b.marked (pos x)) (b.marked (neg x)))
-      where
-        go : (t u : Bool) → (eqb (flag_of t) 1 && eqb (flag_of u) 1) ≡ false
-            → Settles (get_or cells (2 * x) 0) (get_or cells (2 * x + 1) 0) (flag_of t) (flag_of u) s → Meets (contradict_by t u x b)
-        go true true e st = absurd (let z : ◌≡◌ {A = ℕ} 0 1 = cc in omega arith)
-        go true false e st = let (eb, ef, es) = st.first_hard refl in meets_first eb ef es
-        go false true e st = let (eb, ef, es) = st.second_hard (λ z. omega arith) refl in meets_second eb ef es
-        go false false e st =
-            let (eb, ef, es) = st.both_soft (λ z. omega arith) (λ z. omega arith) in
-            meets_both eb ef es
-
-    -- ---- the answers
-    module _ (log : List ℕ) (soft : both_hard ≡ false)
-        (st : Settles (get_or cells (2 * x) 0) (get_or cells (2 * x + 1) 0) (get_or cells (marks_at + 2 * x) 0) (get_or cells (marks_at + (2 * x + 1)) 0) s) where
-      pub clash_nothing : s.booked ≡ 0 → Clashed cs d cells log top cells log Nothing (contradict x b)
-      clash_nothing z = go (contradict x b) (meets soft st)
-        where
-          go : (o : Option Branch) → Meets o → Clashed cs d cells log top cells log Nothing o
-          go none m = (refl, refl)
-          go (some b') m = m.0 z
-
-      pub clash_settled : (cells' log' : List ℕ) (t : ℕ) → (s.booked ≡ 0 → ⊥) → Settled cells log top (2 * x) (2 * x + 1) s cells' log' t
-          → Clashed cs d cells log top cells' log' (Done t) (contradict x b)
-      clash_settled cells' log' t n se = go (contradict x b) (meets soft st)
-        where
-          go : (o : Option Branch) → Meets o → Clashed cs d cells log top cells' log' (Done t) o
-          go none m = n m
-          go (some b') m = (rw (se.stored, se.height) m.1, se.later)
+      pub clash_settled : {log cells' log' : List ℕ} {t : ℕ} → (s.booked ≡ 0 → ⊥) → Settled cells log top (2 * x) (2 * x + 1) s cells' log' t
+          → Clashed cs d cells log top cells' log' t (Ok tt) (contradict x b)
+      unfolding contradict
+      clash_settled n se =
+          rw (← p_marked, ← q_marked, settled_some x b s _ _ soft meant (omega (arith, n))) (rw (se.stored, se.height) (works_settled (omega (arith, n))), se.later)

@@ -4,15 +4,16 @@ use Rattle.std.proofs.Math.Decide.{dec_lt, ℕ_discrete}
 use Rattle.instance.specs.Limits.{most_variables}
 use Rattle.instance.specs.Memory.{cells_size}
 use Rattle.instance.specs.Store.{literal_of, code_of}
+use Rattle.instance.specs.Theorems.Codes.{code_literal, literal_code, code_low, code_high}
 use Rattle.branch.specs.Cells.{Cell, booked, dead, weight, marked, shut, booked_at, dead_at, marks_at, shuts_at, at, cell_at, Real}
-use Rattle.branch.proofs.Literals.{code_literal, literal_code, literal_in_lem, code_range}
+use Rattle.branch.proofs.Literals.{literal_in_lem}
 
 pub at_low : (c : Cell) → Real c → at c < cells_size
 unfolding at
 at_low booked r = omega arith
 at_low dead r = omega arith
-at_low (weight l) r = omega (arith, (code_range most_variables l r).1)
-at_low (marked l) r = omega (arith, (code_range most_variables l r).1)
+at_low (weight l) r = omega (arith, code_high most_variables l r)
+at_low (marked l) r = omega (arith, code_high most_variables l r)
 at_low (shut k) r = omega arith
 
 cell_weight : (p : ℕ) → 2 ≤ p → p < marks_at + 2 → cell_at p ≡ weight (literal_of p)
@@ -34,10 +35,10 @@ unfolding at
 cell_at_lem booked r = unfold cell_at in refl
 cell_at_lem dead r = unfold cell_at in refl
 cell_at_lem (weight l) r =
-    cell_weight (code_of l) (code_range most_variables l r).0 (omega (arith, (code_range most_variables l r).1)) ∙ ap weight (literal_code l)
+    cell_weight (code_of l) (code_low most_variables l r) (omega (arith, code_high most_variables l r)) ∙ ap weight (literal_code l)
 cell_at_lem (marked l) r =
     let e : marks_at + code_of l - marks_at ≡ code_of l = omega arith in
-    cell_mark (marks_at + code_of l) (omega (arith, (code_range most_variables l r).0)) (omega (arith, (code_range most_variables l r).1))
+    cell_mark (marks_at + code_of l) (omega (arith, code_low most_variables l r)) (omega (arith, code_high most_variables l r))
     ∙ ap (λ p. marked (literal_of p)) e ∙ ap marked (literal_code l)
 cell_at_lem (shut k) r =
     let e : shuts_at + k - shuts_at ≡ k = omega arith in
@@ -51,9 +52,6 @@ pub at_cell : (p : ℕ) → p < cells_size → (at (cell_at p) ≡ p) × Real (c
 unfolding at
 at_cell p lt = go (ℕ_discrete p booked_at) (ℕ_discrete p dead_at) (dec_lt p (marks_at + 2)) (dec_lt p shuts_at)
   where
-    Own : Cell → Type 0
-    Own c = (at c ≡ p) × Real c
-
     go : Dec (p ≡ booked_at) → Dec (p ≡ dead_at) → Dec (p < marks_at + 2) → Dec (p < shuts_at) → (at (cell_at p) ≡ p) × Real (cell_at p)
     go (yes e) d w m = rw e (unfold cell_at in (refl, tt))
     go (no n) (yes e) w m = rw e (unfold cell_at in (refl, tt))

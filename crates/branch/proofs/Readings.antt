@@ -1,27 +1,20 @@
 -- What the cells say of the branch that they show.
-use Rattle.std.proofs.Common.{ℕ, ◌+◌, ◌<◌, Bool, true, false, not, List, ◌≡◌, refl, ap, sym, ◌∙◌, eq-eqb, ne_eqb, eqb, leb, get_or}
+use Rattle.std.proofs.Common.{ℕ, ◌+◌, ◌<◌, Bool, true, false, not, List, ◌≡◌, refl, ap, ◌∙◌, eqb, get_or}
 use Rattle.instance.specs.Limits.{most_variables, most_clauses}
 use Rattle.instance.specs.Clause.{Literal, Clause}
 use Rattle.instance.specs.Within.{In}
 use Rattle.instance.specs.Store.{code_of, flag_of}
-use Rattle.instance.specs.declared.answers.Claim.{Claim}
-use Rattle.instance.specs.declared.answers.Claim.TheVariants.{Minimum, Infeasible}
+use Rattle.instance.specs.Theorems.Held.{flag_read}
 use Rattle.calculus.specs.Branch.{Branch}
-use Rattle.calculus.specs.Derivation.{closable}
 use Rattle.branch.specs.Cells.{booked, dead, weight, marked, shut, booked_at, dead_at, marks_at, shuts_at, at}
 use Rattle.branch.specs.Shows.{open_in, has, Shows}
-
-set_flag : (t : Bool) → eqb (flag_of t) 1 ≡ t
-unfolding flag_of
-set_flag true = refl
-set_flag false = refl
 
 clear_flag : (t : Bool) → eqb (flag_of (not t)) 0 ≡ t
 unfolding flag_of
 clear_flag true = refl
 clear_flag false = refl
 
-module _ (cs : List Clause) (cells : List ℕ) (b : Branch) (h : Shows cs cells b) where
+module _ {cs : List Clause} {cells : List ℕ} {b : Branch} (h : Shows cs cells b) where
   pub booked_is : get_or cells booked_at 0 ≡ b.booked
   unfolding at has
   booked_is = h.holds booked tt
@@ -30,37 +23,14 @@ module _ (cs : List Clause) (cells : List ℕ) (b : Branch) (h : Shows cs cells 
   unfolding at has
   weight_is l i = h.holds (weight l) i
 
-  pub mark_is : (l : Literal) → In most_variables l → get_or cells (marks_at + code_of l) 0 ≡ flag_of (b.marked l)
+  pub mark_test : (l : Literal) → In most_variables l → eqb (get_or cells (marks_at + code_of l) 0) 1 ≡ b.marked l
   unfolding at has
-  mark_is l i = h.holds (marked l) i
-
-  pub shut_is : (k : ℕ) → k < most_clauses → get_or cells (shuts_at + k) 0 ≡ flag_of (not (open_in b.rules k))
-  unfolding at has
-  shut_is k lt = h.holds (shut k) lt
-
-  pub dead_is : get_or cells dead_at 0 ≡ flag_of b.dead
-  unfolding at has
-  dead_is = h.holds dead tt
+  mark_test l i = ap (λ n. eqb n 1) (h.holds (marked l) i) ∙ flag_read (b.marked l)
 
   pub dead_test : eqb (get_or cells dead_at 0) 1 ≡ b.dead
-  dead_test = ap (λ n. eqb n 1) dead_is ∙ set_flag b.dead
+  unfolding at has
+  dead_test = ap (λ n. eqb n 1) (h.holds dead tt) ∙ flag_read b.dead
 
   pub open_test : (k : ℕ) → k < most_clauses → eqb (get_or cells (shuts_at + k) 0) 0 ≡ open_in b.rules k
-  open_test k lt = ap (λ n. eqb n 0) (shut_is k lt) ∙ clear_flag (open_in b.rules k)
-
-  -- the two tests of closing
-  dead_closes : (claim : Claim) → b.dead ≡ true → closable claim b ≡ true
-  unfolding closable
-  dead_closes (Minimum m) e = rw e
-  dead_closes Infeasible e = e
-
-  pub close_dead : (claim : Claim) → get_or cells dead_at 0 ≡ 1 → true ≡ closable claim b
-  close_dead claim e = sym (dead_closes claim (sym dead_test ∙ eq-eqb _ 1 e))
-
-  pub close_minimum : (m : ℕ) → (get_or cells dead_at 0 ≡ 1 → ⊥) → leb m (get_or cells booked_at 0) ≡ closable (Minimum m) b
-  unfolding closable
-  close_minimum m n = rw (booked_is, sym dead_test ∙ ne_eqb _ 1 n)
-
-  pub close_infeasible : (get_or cells dead_at 0 ≡ 1 → ⊥) → false ≡ closable Infeasible b
-  unfolding closable
-  close_infeasible n = sym (ne_eqb _ 1 n) ∙ dead_test
+  unfolding at has
+  open_test k lt = ap (λ n. eqb n 0) (h.holds (shut k) lt) ∙ clear_flag (open_in b.rules k)

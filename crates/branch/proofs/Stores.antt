@@ -42,10 +42,10 @@ sum_part f cells c real = rw (cell_at_lem c real) at (part_below f cells (at c) 
 
 -- ---- a store into a cell
 module _ (cells : List ℕ) (size : cells_size ≤ length cells) (c : Cell) (real : Real c) (v : ℕ) where
-  pub held_same : held (set cells (at c) v) c ≡ v
+  held_same : held (set cells (at c) v) c ≡ v
   held_same = get_or-set_same cells (at c) v 0 (omega (arith, at_low c real))
 
-  pub held_other : (d : Cell) → Real d → (d ≡ c → ⊥) → held (set cells (at c) v) d ≡ held cells d
+  held_other : (d : Cell) → Real d → (d ≡ c → ⊥) → held (set cells (at c) v) d ≡ held cells d
   held_other d r n = get_or-set_other cells (at c) (at d) v 0 (λ e. n (at_own d c r real e))
 
   pub sum_set : (f : Cell → ℕ → ℕ) → sum f (set cells (at c) v) + f c (held cells c) ≡ sum f cells + f c v
@@ -53,9 +53,9 @@ module _ (cells : List ℕ) (size : cells_size ≤ length cells) (c : Cell) (rea
   sum_set f = rw (cell_at_lem c real) at (sum_store f cells (at c) v cells_size (at_low c real) (omega (arith, at_low c real)))
 
 -- the branch after a change in one cell
-pub shows_set : (cs cs' : List Clause) (cells : List ℕ) (b b' : Branch) (c : Cell) (v : ℕ) → Shows cs cells b → Real c → has b' c ≡ v
+pub shows_set : {cs cs' : List Clause} {cells : List ℕ} {b : Branch} → Shows cs cells b → (b' : Branch) (c : Cell) (v : ℕ) → Real c → has b' c ≡ v
     → ((d : Cell) → (d ≡ c → ⊥) → has b' d ≡ has b d) → Remain cs' b'.rules → Shows cs' (set cells (at c) v) b'
-shows_set cs cs' cells b b' c v h real here there rules = record {
+shows_set {cells = cells} {b = b} h b' c v real here there rules = record {
   size = rw length-set h.size;
   holds = λ d r. go d r (ℕ_discrete (at d) (at c));
   rules = rules;
@@ -73,9 +73,9 @@ unfolding sum_to
 sum_none_below f cells zero h = refl
 sum_none_below f cells (suc n) h = omega (arith, sum_none_below f cells n (λ p lt. h p (omega arith)), h n (omega arith))
 
-pub sum_none : (f : Cell → ℕ → ℕ) (cs : List Clause) (cells : List ℕ) (b : Branch) → Shows cs cells b → ((c : Cell) → f c (has b c) ≡ 0) → sum f cells ≡ 0
+pub sum_none : (f : Cell → ℕ → ℕ) {cs : List Clause} {cells : List ℕ} {b : Branch} → Shows cs cells b → ((c : Cell) → f c (has b c) ≡ 0) → sum f cells ≡ 0
 unfolding sum
-sum_none f cs cells b h none = sum_none_below f cells cells_size by_cell
+sum_none f {cells = cells} {b = b} h none = sum_none_below f cells cells_size by_cell
   where
     by_cell : (p : ℕ) → p < cells_size → f (cell_at p) (get_or cells p 0) ≡ 0
     by_cell p lt =

@@ -1,28 +1,38 @@
-ghost use Rattle.std.specs.Prelude.{◌<◌, ◌≤◌, length};
+ghost use Rattle.std.specs.Prelude.{◌<◌};
 ghost use Rattle.instance.specs.Limits.{most_clauses};
-ghost use Rattle.instance.specs.Memory.{log_size};
+ghost use Rattle.instance.specs.Weights.{meant};
+ghost use Rattle.journal.specs.Lent.{Remains};
 ghost use Rattle.branch.specs.Extensions.{Open, Coming, Coded, Spent, Gained};
 
-use crate::{MARKS, SHUTS};
+use crate::{Branch, MARKS, SHUTS};
+use instance::Weight;
 
-// The clause of number k + 1 is extended below.
-pub fn spend(cells: &mut [u64], log: &mut [u64], top: usize, k: usize) -> usize
-    requires open_clause { Open cells.old top k }
-    requires in_range { (k < most_clauses) × (log_size ≤ length log.old) }
-    ensures { Spent cells.old log.old top k cells.new log.new result }
-{
-    journal::put(cells, log, top, SHUTS + k, 1)
-}
-
-// A literal gains a weight, or the hard mark where that is 0.
-pub fn gain(cells: &mut [u64], log: &mut [u64], top: usize, literal: usize, weight: u64) -> usize
-    requires coming { Coming cells.old top weight }
-    requires in_range { Coded literal × (log_size ≤ length log.old) }
-    ensures { Gained cells.old log.old top literal weight cells.new log.new result }
-{
-    if weight == 0 {
-        return journal::put(cells, log, top, MARKS + literal, 1);
+impl Branch<'_> {
+    // The clause of number k + 1 is extended below.
+    pub fn spend(&mut self, k: usize)
+        requires open_clause { Open self.old.journal.cells.now self.old.journal.top k }
+        requires in_range { k < most_clauses }
+        ensures spent { Spent self.old.journal.cells.now self.old.journal.log.now self.old.journal.top k
+            self.new.journal.cells.now self.new.journal.log.now self.new.journal.top }
+        ensures same_memory { Remains self.old.journal self.new.journal }
+    {
+        self.journal.put(SHUTS + k, 1);
     }
-    let old = cells[literal];
-    journal::put(cells, log, top, literal, old + weight)
+
+    // A literal gains a weight or the hard mark.
+    pub fn gain(&mut self, literal: usize, weight: Weight)
+        requires coming { Coming self.old.journal.cells.now self.old.journal.top (meant weight) }
+        requires in_range { Coded literal }
+        ensures gained { Gained self.old.journal.cells.now self.old.journal.log.now self.old.journal.top literal (meant weight)
+            self.new.journal.cells.now self.new.journal.log.now self.new.journal.top }
+        ensures same_memory { Remains self.old.journal self.new.journal }
+    {
+        match weight {
+            Weight::Hard => self.journal.put(MARKS + literal, 1),
+            Weight::Soft(w) => {
+                let gained = self.journal.cells[literal] + w;
+                self.journal.put(literal, gained);
+            }
+        }
+    }
 }

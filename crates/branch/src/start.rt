@@ -1,78 +1,68 @@
-ghost use Rattle.std.specs.Prelude.{List, ◌≡◌, ℕ, suc, ◌+◌, ◌<◌, ◌≤◌, ◌^◌, length, get_or};
-ghost use Rattle.instance.specs.Memory.{cells_size};
-ghost use Rattle.instance.specs.Clause.{Problem};
+ghost use Rattle.std.specs.Prelude.{◌≡◌, suc, ◌+◌, ◌<◌, ◌≤◌, ◌^◌, length, get_or};
+ghost use Rattle.instance.specs.Memory.{cells_size, log_size};
+ghost use Rattle.instance.specs.Clause.{Problem, soft_of};
+ghost use Rattle.instance.specs.Weights.{meant};
 ghost use Rattle.instance.specs.Store.{Stored};
-ghost use Rattle.calculus.specs.Branch.{root as rootOf};
+ghost use Rattle.calculus.specs.Branch as calculus;
 ghost use Rattle.branch.specs.Works.{Works};
-ghost use Rattle.branch.specs.Roots.{Filled, given, Rooted, Rooting};
+ghost use Rattle.branch.specs.Roots.{given, Rooted};
 
-use crate::store::{end_of, literal_at, start_of, weight_of};
-use crate::{BOOKED, DEAD, MARKS, SHUTS};
-use instance::CELLS;
+use crate::{BOOKED, Branch, DEAD, MARKS, SHUTS};
+use instance::{CELLS, Held, Weight};
+use journal::Journal;
 
-const FLAGS: usize = 2000;
-
-// Sets the cells from a place up to another to v.
-fn fill(cells: &mut [u64], from: usize, to: usize, v: u64)
-    requires { (from ≤ to) × (to ≤ length cells.old) }
-    ensures { Filled cells.old from to v cells.new }
+// A soft weight goes to one cell; a hard clause sets another. The root's cells are filled before there is a branch with a log, so
+// they go alone here.
+#[tactic(auto, unfolding(crate::specs::Roots::given, instance::specs::Clause::soft_of))]
+fn give(cells: &mut [u64], mark: usize, sum: usize, weight: Weight)
+    requires { (mark < length cells.old) × (sum < length cells.old) × (get_or cells.old sum 0 + soft_of (meant weight) < 2 ^ 64) }
+    ensures { cells.new ≡ given cells.old mark sum (meant weight) }
 {
-    let mut i = from;
-    while i < to {
-        cells[i] = v;
-        i += 1;
+    match weight {
+        Weight::Hard => cells[mark] = 1,
+        Weight::Soft(w) => cells[sum] += w,
     }
-}
-
-// A weight goes to one cell; a hard clause sets another.
-fn give(cells: &mut [u64], mark: usize, sum: usize, weight: u64)
-    requires { (mark < length cells.old) × (sum < length cells.old) × (get_or cells.old sum 0 + weight < 2 ^ 64) }
-    ensures { cells.new ≡ given cells.old mark sum weight }
-{
-    if weight == 0 {
-        cells[mark] = 1;
-        return;
-    }
-    let old = cells[sum];
-    cells[sum] = old + weight;
 }
 
 // The clause of number k + 1 at the root.
-fn enter(store: &[u64], cells: &mut [u64], k: usize)
-    requires { (I : Problem) × Rooting store.now I k cells.old × (k < length I.clauses) }
-    ensures { (I : Problem) → Rooting store.now I k cells.old → k < length I.clauses
-        → Rooting store.now I (suc k) cells.new }
+fn enter(held: &Held, cells: &mut [u64], k: usize)
+    requires { Rooted held.now.store.now held.now.counts.clauses k cells.old × (k < held.now.counts.clauses) }
+    ensures { Rooted held.now.store.now held.now.counts.clauses (suc k) cells.new }
 {
-    let start = start_of(store, k);
-    let end = end_of(store, k);
-    let weight = weight_of(store, k);
-    if start == end {
-        give(cells, DEAD, BOOKED, weight);
-        return;
+    let weight = held.weight_of(k);
+    match held.codes_of(k) {
+        [] => give(cells, DEAD, BOOKED, weight),
+        [code] => {
+            let literal = *code as usize;
+            give(cells, MARKS + literal, literal, weight);
+        }
+        _ => {
+            if !held.is_tautology(k) {
+                cells[SHUTS + k] = 0;
+            }
+        }
     }
-    if start + 1 == end {
-        let literal = literal_at(store, start);
-        give(cells, MARKS + literal, literal, weight);
-        return;
-    }
-    if store[FLAGS + k] == 1 {
-        return;
-    }
-    cells[SHUTS + k] = 0;
 }
 
-// The root's cells, from the k clauses of the store.
-pub fn root(store: &[u64], cells: &mut [u64], k: usize)
-    requires stored { (I : Problem) × Stored store.now I × (k ≡ length I.clauses) }
-    requires enough_cells { cells_size ≤ length cells.old }
-    ensures { (I : Problem) → Stored store.now I → k ≡ length I.clauses
-        → Works I.clauses cells.new 0 0 0 (rootOf I.clauses) }
-{
-    fill(cells, 0, SHUTS, 0);
-    fill(cells, SHUTS, CELLS, 1);
-    let mut c: usize = 0;
-    while c < k {
-        enter(store, cells, c);
-        c += 1;
+impl<'a> Branch<'a> {
+    // The root of the instance in the store.
+    pub fn root(held: &Held, cells: &'a mut [u64], log: &'a mut [u64]) -> Branch<'a>
+        requires enough_cells { cells_size ≤ length cells.old }
+        requires enough_log { log_size ≤ length log.old }
+        ensures works { (I : Problem) → Stored held.now.store.now I → held.now.counts.clauses ≡ length I.clauses
+            → Works I.clauses result.journal.cells.now 0 0 0 (calculus.root I.clauses) }
+        ensures height { result.journal.top ≡ 0 }
+        ensures log_kept { result.journal.log.now ≡ log.old }
+        ensures same_cells { result.journal.cells.ghost_name ≡ cells.entry.ghost_name }
+        ensures same_log { result.journal.log.ghost_name ≡ log.entry.ghost_name }
+    {
+        cells[..SHUTS].fill(0);
+        cells[SHUTS..CELLS].fill(1);
+        for k in 0..held.counts.clauses {
+            enter(held, cells, k);
+        }
+        Branch {
+            journal: Journal { cells, log, top: 0 },
+        }
     }
 }

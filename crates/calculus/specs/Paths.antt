@@ -1,6 +1,6 @@
 -- Paths from the root, with their extensions and contradictions counted.
-use Rattle.std.specs.Prelude.{ℕ, suc, ◌≡◌}
-use mathlib.Core.List.{List, Memᴰ as Among}
+use Rattle.std.specs.Prelude.{ℕ, suc, ◌≡◌, List}
+use mathlib.Core.List.{Memᴰ as Among}
 use Rattle.instance.specs.Clause.{Problem}
 use Rattle.instance.specs.declared.answers.Claim.{Claim}
 use Rattle.calculus.specs.Branch.{Branch, root}

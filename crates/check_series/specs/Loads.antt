@@ -1,8 +1,6 @@
 -- What was read lies within the memory lent for it.
-use Rattle.std.specs.Prelude.{ℕ, ◌≤◌}
-use Rattle.check_series.specs.declared.files.Loaded.{Loaded}
-use Rattle.check_series.specs.declared.files.Loaded.TheVariants.{Whole, Unread}
+use Rattle.std.specs.Prelude.{ℕ, ◌≤◌, List, length, Option, IfSome}
+use Rattle.std.specs.Borrow.{Bor}
 
-abbrev pub Within : ℕ → Loaded → Type 0
-Within room (Whole n) = n ≤ room
-Within room Unread = Unit {0}
+abbrev pub Within : ℕ → Option (Bor (List ℕ)) → Type 0
+Within room result = IfSome result (λ read. length read.now ≤ room)

@@ -1,13 +1,20 @@
-use crate::space::{cells_space, frames_space, log_space, store_space};
-use std::io;
-use telling::{tell_checked, tell_end};
+ghost use Rattle.std.specs.Prelude.{◌≡◌};
+ghost use Rattle.derivation.specs.Check.{check_of};
+ghost use Rattle.derivation.specs.Demands.{Meant};
 
-pub fn judge_series(rt: &impl Print, text: &[u8], bytes: &[u8], proof: &[u8]) -> io::Result<()> {
-    let mut store = store_space();
-    let mut cells = cells_space();
-    let mut log = log_space();
-    let mut frames = frames_space();
-    let answer = verdict::check(
+use instance::{CELLS, Checked, FRAMES, LOG, STORE};
+
+// The judgement on a series, over workspaces of its own: they are never too small.
+#[tactic(auto, unfolding(derivation::specs::Check::roomy, instance::specs::Memory::ample))]
+pub fn judge_series(text: &[u8], bytes: &[u8], proof: &[u8]) -> Checked
+    ensures answer { result ≡ check_of text.now bytes.now proof.now }
+    ensures meant { Meant text.now bytes.now result }
+{
+    let mut store = [0u64; STORE];
+    let mut cells = [0u64; CELLS];
+    let mut log = [0u64; LOG];
+    let mut frames = [0u64; FRAMES];
+    verdict::check(
         text,
         bytes,
         proof,
@@ -15,7 +22,5 @@ pub fn judge_series(rt: &impl Print, text: &[u8], bytes: &[u8], proof: &[u8]) ->
         &mut cells,
         &mut log,
         &mut frames,
-    );
-    tell_checked(rt, answer)?;
-    tell_end(rt)
+    )
 }

@@ -3,32 +3,27 @@
 // The program `check`: reads series.wcnf, series.asg and series.prf in the current folder, and prints one line.
 mod files;
 mod judge;
-mod space;
 
-use files::{Loaded, load};
+use files::{ROOM, Unread, load_named};
+use instance::Checked;
 use judge::judge_series;
-use space::file_space;
 use std::io;
-use telling::{tell, tell_end};
+use std::rt::Files;
 
-fn unread(rt: &impl Print, name: &[u8]) -> io::Result<()> {
-    tell(rt, b"unread ")?;
-    tell(rt, name)?;
-    tell_end(rt)
+// The judgement on the series, or the first of its files that is unread.
+fn answer(rt: &impl Files) -> Result<Checked, Unread> {
+    let mut text = [0u8; ROOM];
+    let text = load_named(rt, "series.wcnf", &mut text)?;
+    let mut bytes = [0u8; ROOM];
+    let bytes = load_named(rt, "series.asg", &mut bytes)?;
+    let mut proof = [0u8; ROOM];
+    let proof = load_named(rt, "series.prf", &mut proof)?;
+    Ok(judge_series(text, bytes, proof))
 }
 
 fn main(rt: HostRuntime) -> io::Result<()> {
-    let mut text = file_space();
-    let Loaded::Whole(t) = load(&rt, b"series.wcnf", &mut text) else {
-        return unread(&rt, b"series.wcnf");
-    };
-    let mut bytes = file_space();
-    let Loaded::Whole(b) = load(&rt, b"series.asg", &mut bytes) else {
-        return unread(&rt, b"series.asg");
-    };
-    let mut proof = file_space();
-    let Loaded::Whole(p) = load(&rt, b"series.prf", &mut proof) else {
-        return unread(&rt, b"series.prf");
-    };
-    judge_series(&rt, &text[..t], &bytes[..b], &proof[..p])
+    match answer(&rt) {
+        Ok(checked) => println!(rt; "{checked}"),
+        Err(unread) => println!(rt; "{unread}"),
+    }
 }

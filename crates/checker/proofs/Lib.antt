@@ -1,6 +1,6 @@
-pub mod Stacks
-pub mod Walks
 pub mod Decodes
-pub mod Stepping
+pub mod Stacks
+pub mod Entering
+pub mod Walks
 pub mod Running
 pub mod Turns

@@ -1,87 +1,83 @@
 -- The frames stand for the same open branches, whatever is stored above them.
-use Rattle.std.proofs.Common.{ℕ, zero, suc, ◌+◌, ◌*◌, ◌<◌, ◌≤◌, List, ◌++◌, ◌≡◌, refl, ◌∙◌, arith, length, get_or, set, length-set, get_or-set_same, get_or-set_other}
+use Rattle.std.proofs.Common.{ℕ, zero, suc, ◌+◌, ◌*◌, ◌<◌, ◌≤◌, List, ◌++◌, ◌≡◌, refl, sym, subst, arith, length, get_or, set, length-set, get_or-set_same, get_or-set_other}
 use Rattle.instance.specs.Clause.{Problem}
 use Rattle.journal.specs.Undo.{Later}
 use Rattle.journal.specs.Theorems.Stores.{later_log, later_rewound}
 use Rattle.calculus.specs.Branch.{Branch}
-use Rattle.checker.specs.Frames.{clause_of, next_of, height_of, framed, branches_from, base_of, Frame, Stack}
+use Rattle.checker.specs.declared.frames.Frame.{Frame}
+use Rattle.checker.specs.Frames.{frame_at, framed, branches_from, base_of, Waits, Stack}
 
-frame_up : {I : Problem} {s f base : List ℕ} {d top top' : ℕ} {b : Branch} → Frame I s f base d top b → top ≤ top' → Frame I s f base d top' b
-frame_up r le = let low = r.low in record { low = omega arith; here = r.here; since = r.since; more = r.more; works = r.works }
+waits_up : {I : Problem} {s base : List ℕ} {f : Frame} {d top top' : ℕ} {b : Branch} → Waits I s f base d top b → top ≤ top' → Waits I s f base d top' b
+waits_up w le = let low = w.low in record { low = omega arith; here = w.here; since = w.since; more = w.more; works = w.works }
+
+-- the same words below a frame
+abbrev pub Below : ℕ → List ℕ → List ℕ → Type 0
+Below d words words' = (p : ℕ) → p < 3 * d → get_or words' p 0 ≡ get_or words p 0
 
 module _ (I : Problem) (s : List ℕ) where
   -- a run of stores
-  pub stack_later : (d : ℕ) (f : List ℕ) (bs : List Branch) {cells log cells' log' : List ℕ} {top top' : ℕ} → Later cells log top cells' log' top'
-      → Stack d I s f cells log top bs → Stack d I s f cells' log' top' bs
+  pub stack_later : (d : ℕ) (words : List ℕ) (bs : List Branch) {cells log cells' log' : List ℕ} {top top' : ℕ} → Later cells log top cells' log' top'
+      → Stack d I s words cells log top bs → Stack d I s words cells' log' top' bs
   unfolding Stack
-  stack_later zero f bs l st = st
-  stack_later (suc d) f bs {cells} {log} {cells'} {log'} {top} {top'} l (b, rest, fr, e, st) =
-      let low = fr.low in
-      let same : base_of f d cells' log' top' ≡ base_of f d cells log top = later_rewound l (height_of f d) low in (
+  stack_later zero words bs l st = st
+  stack_later (suc d) words bs {cells} {log} {cells'} {log'} {top} {top'} l (b, rest, waits, e, st) =
+      let f = frame_at words d in
+      let low = waits.low in
+      let same : base_of f cells' log' top' ≡ base_of f cells log top = later_rewound l f.height low in (
         b,
         rest,
-        rw same (frame_up fr l.higher),
+        rw same (waits_up waits l.higher),
         e,
-        rw same (stack_later d f rest (later_log (base_of f d cells log top) log log' (height_of f d) l.same_log (λ k lt. l.below k (omega arith))) st),
+        rw same (stack_later d words rest (later_log (base_of f cells log top) log log' f.height l.same_log (λ k lt. l.below k (omega arith))) st),
       )
+
+  -- d + 1 frames, of which the last one is f
+  abbrev pub Last : Frame → ℕ → List ℕ → List ℕ → List ℕ → ℕ → List Branch → Type 0
+  Last f d words cells log top bs =
+      (b : Branch) × (rest : List Branch) × Waits I s f (base_of f cells log top) d top b × (bs ≡ branches_from s f b ++ rest)
+      × Stack d I s words (base_of f cells log top) log f.height rest
 
   -- another frame above
-  pub stack_frames : (d : ℕ) (f f' cells log : List ℕ) (top : ℕ) (bs : List Branch) → ((k : ℕ) → k < 3 * d → get_or f' k 0 ≡ get_or f k 0)
-      → Stack d I s f cells log top bs → Stack d I s f' cells log top bs
+  stack_below : (d : ℕ) (words words' cells log : List ℕ) (top : ℕ) (bs : List Branch) → Below d words words'
+      → Stack d I s words cells log top bs → Stack d I s words' cells log top bs
   unfolding Stack
-  stack_frames zero f f' cells log top bs same st = st
-  stack_frames (suc d) f f' cells log top bs same (b, rest, fr, e, st) =
-      let p : clause_of f' d ≡ clause_of f d = same (3 * d) (omega arith) in
-      let q : next_of f' d ≡ next_of f d = same (3 * d + 1) (omega arith) in
-      let r : height_of f' d ≡ height_of f d = same (3 * d + 2) (omega arith) in (
-        b,
-        rest,
-        record {
-          low = rw r fr.low;
-          here = rw p fr.here;
-          since = rw (p, q) fr.since;
-          more = rw (p, q) fr.more;
-          works = rw (p, r) fr.works;
-        },
-        rw (p, q) e,
-        rw r (stack_frames d f f' (base_of f d cells log top) log (height_of f d) rest (λ k lt. same k (omega arith)) st),
-      )
+  stack_below zero words words' cells log top bs same st = st
+  stack_below (suc d) words words' cells log top bs same (b, rest, waits, e, st) =
+      let f : frame_at words d ≡ frame_at words' d =
+      λ i. record { clause = sym (same (3 * d) (omega arith)) i; next = sym (same (3 * d + 1) (omega arith)) i; height = sym (same (3 * d + 2) (omega arith)) i }
+      in
+      subst (λ x. Last x d words' cells log top bs) f
+      (b, rest, waits, e, stack_below d words words' (base_of (frame_at words d) cells log top) log (frame_at words d).height rest (λ k lt. same k (omega arith)) st)
 
   -- a frame over its state, and the work gone on above it
-  pub stack_push : (d : ℕ) (f f' : List ℕ) (b : Branch) (rest : List Branch) {base log cells log' : List ℕ} {h top : ℕ} → Later base log h cells log' top
-      → height_of f' d ≡ h → ((k : ℕ) → k < 3 * d → get_or f' k 0 ≡ get_or f k 0) → Frame I s f' base d h b
-      → Stack d I s f base log h rest → Stack (suc d) I s f' cells log' top (branches_from s (clause_of f' d) (next_of f' d) b ++ rest)
+  pub stack_push : (d : ℕ) (words words' : List ℕ) (f : Frame) (b : Branch) (rest : List Branch) {base log cells log' : List ℕ} {top : ℕ}
+      → Later base log f.height cells log' top → f ≡ frame_at words' d → Below d words words' → Waits I s f base d f.height b
+      → Stack d I s words base log f.height rest → Stack (suc d) I s words' cells log' top (branches_from s f b ++ rest)
   unfolding Stack
-  stack_push d f f' b rest {base} {log} {cells} {log'} {h} {top} l e same fr st =
-      let under : base_of f' d cells log' top ≡ base = rw e l.undoes in (
+  stack_push d words words' f b rest {base} {log} {cells} {log'} {top} l e same waits st =
+      subst (λ x. Last x d words' cells log' top (branches_from s f b ++ rest)) e (
         b,
         rest,
-        rw under (frame_up fr l.higher),
+        rw l.undoes (waits_up waits l.higher),
         refl,
-        rw (under, e) (stack_later d f' rest (later_log base log log' h l.same_log l.below) (stack_frames d f f' base log h rest same st)),
+        rw l.undoes (stack_later d words' rest (later_log base log log' f.height l.same_log l.below) (stack_below d words words' base log f.height rest same st)),
       )
 
 -- ---- a frame that was written
-module _ (f : List ℕ) (d k next height : ℕ) (room : 3 * d + 2 < length f) where
-  pub framed_clause : clause_of (framed f d k next height) d ≡ k
-  framed_clause =
-      get_or-set_other (set (set f (3 * d) k) (3 * d + 1) next) (3 * d + 2) (3 * d) height 0 (λ e. omega arith)
-      ∙ get_or-set_other (set f (3 * d) k) (3 * d + 1) (3 * d) next 0 (λ e. omega arith)
-      ∙ get_or-set_same f (3 * d) k 0 (omega arith)
+-- the frame once its next branch is entered
+abbrev pub passed : Frame → Frame
+passed f = record { clause = f.clause; next = f.next + 1; height = f.height }
 
-  pub framed_next : next_of (framed f d k next height) d ≡ next
-  framed_next =
-      get_or-set_other (set (set f (3 * d) k) (3 * d + 1) next) (3 * d + 2) (3 * d + 1) height 0 (λ e. omega arith)
-      ∙ get_or-set_same (set f (3 * d) k) (3 * d + 1) next 0 (simp length-set (omega arith))
+module _ (words : List ℕ) (d : ℕ) (f : Frame) (room : 3 * d + 2 < length words) where
+  pub framed_here : f ≡ frame_at (framed words d f) d
+  framed_here = grind (arith, get_or-set_same, get_or-set_other, length-set)
 
-  pub framed_height : height_of (framed f d k next height) d ≡ height
-  framed_height = get_or-set_same (set (set f (3 * d) k) (3 * d + 1) next) (3 * d + 2) height 0 (simp length-set (omega arith))
+  pub framed_below : Below d words (framed words d f)
+  framed_below p lt = grind (arith, get_or-set_other)
 
-  pub framed_below : (p : ℕ) → p < 3 * d → get_or (framed f d k next height) p 0 ≡ get_or f p 0
-  framed_below p lt =
-      get_or-set_other (set (set f (3 * d) k) (3 * d + 1) next) (3 * d + 2) p height 0 (λ e. omega arith)
-      ∙ get_or-set_other (set f (3 * d) k) (3 * d + 1) p next 0 (λ e. omega arith)
-      ∙ get_or-set_other f (3 * d) p k 0 (λ e. omega arith)
+module _ (words : List ℕ) (d : ℕ) (f : Frame) (here : f ≡ frame_at words d) (room : 3 * d + 1 < length words) where
+  pub passed_here : passed f ≡ frame_at (set words (3 * d + 1) (f.next + 1)) d
+  passed_here = grind (arith, get_or-set_same, get_or-set_other)
 
-  pub framed_length : length (framed f d k next height) ≡ length f
-  framed_length = simp length-set
+  pub passed_below : Below d words (set words (3 * d + 1) (f.next + 1))
+  passed_below p lt = grind (arith, get_or-set_other)

@@ -1,4 +1,5 @@
 pub mod Decoding
+pub mod Desks
 pub mod Frames
 pub mod Walking
 pub mod Moves

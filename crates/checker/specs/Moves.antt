@@ -1,31 +1,27 @@
 -- What a step answers, beside the calculus' step on the same branch.
-use Rattle.std.specs.Prelude.{ℕ, List, [], ◌∷◌, ◌++◌, ◌≡◌}
+use Rattle.std.specs.Prelude.{List, [], ◌∷◌, ◌++◌, ◌≡◌, Result, Ok, Err}
 use Rattle.instance.specs.Clause.{Problem}
+use Rattle.instance.specs.Faults.{numbered}
+use Rattle.instance.specs.declared.faults.Fault.{Fault}
 use Rattle.calculus.specs.Branch.{Branch}
-use Rattle.calculus.specs.Derivation.{Step, stop, go}
-use Rattle.checker.specs.Walking.{Walk}
-use Rattle.checker.specs.declared.steps.Move.{Move}
-use Rattle.checker.specs.declared.steps.Move.TheVariants.{On, Last, Stop}
+use Rattle.calculus.specs.Derivation.{stop, go}
+use Rattle.calculus.specs.Derivation as calculus
+use Rattle.checker.specs.Walking.{Stands}
+use Rattle.checker.specs.declared.walk.Walk.{Walk}
+use Rattle.checker.specs.declared.steps.Step.{Step}
+use Rattle.checker.specs.declared.steps.Step.TheVariants.{GoesOn, AllClosed}
 
 -- bs are open behind the branch
-abbrev pub Moved : Problem → List ℕ → List ℕ → List ℕ → List ℕ → List Branch → Move → Step → Type 0
-Moved I store cells log frames bs (On l) (go new) =
-    (b : Branch) × (rest : List Branch) × (new ++ bs ≡ b ∷ rest) × Walk I store cells log frames l.top l.depth b rest
-Moved I store cells log frames bs (On l) (stop e) = ⊥
-Moved I store cells log frames bs Last (go new) = new ++ bs ≡ []
-Moved I store cells log frames bs Last (stop e) = ⊥
-Moved I store cells log frames bs (Stop n) (go new) = ⊥
-Moved I store cells log frames bs (Stop n) (stop e) = n ≡ e
+abbrev pub Moved : Problem → Walk → List Branch → Result Step Fault → calculus.Step → Type 0
+Moved I w bs (Ok GoesOn) (go new) =
+    (b : Branch) × (rest : List Branch) × (new ++ bs ≡ b ∷ rest) × Stands I w b rest
+Moved I w bs (Ok GoesOn) (stop e) = ⊥
+Moved I w bs (Ok AllClosed) (go new) = new ++ bs ≡ []
+Moved I w bs (Ok AllClosed) (stop e) = ⊥
+Moved I w bs (Err fault) (go new) = ⊥
+Moved I w bs (Err fault) (stop e) = numbered fault ≡ e
 
--- for every instance of a kind and every branch that the memory may stand for
-abbrev pub Steps : (Problem → Type 0) → (Problem → Branch → Step)
-    → List ℕ → List ℕ → List ℕ → List ℕ → ℕ → ℕ → List ℕ → List ℕ → List ℕ → Move → Type 0
-Steps Of f store cells log frames top depth cells' log' frames' m =
-    (I : Problem) (b : Branch) (bs : List Branch) → Of I → Walk I store cells log frames top depth b bs
-    → Moved I store cells' log' frames' bs m (f I b)
-
-abbrev pub Any : Problem → Type 0
-Any I = Unit {0}
-
-abbrev pub OfVariables : ℕ → Problem → Type 0
-OfVariables n I = n ≡ I.variables
+-- for every branch that the memory may stand for
+abbrev pub Steps : (Problem → Branch → calculus.Step) → Walk → Walk → Result Step Fault → Type 0
+Steps f w w' r =
+    (I : Problem) (b : Branch) (bs : List Branch) → Stands I w b bs → Moved I w' bs r (f I b)

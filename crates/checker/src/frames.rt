@@ -1,81 +1,65 @@
-ghost use Rattle.std.specs.Prelude.{◌≡◌, suc, ◌+◌, ◌*◌, ◌<◌, length};
-ghost use Rattle.instance.specs.Limits.{most_clauses};
-ghost use Rattle.checker.specs.Frames.{framed};
-ghost use Rattle.checker.specs.Walking.{Extending, Extended, Turning, Turned};
+ghost use Rattle.std.specs.Prelude.{◌≡◌, ◌+◌, ◌-◌, ◌*◌, ◌<◌, ◌≤◌, length, set};
+ghost use Rattle.instance.specs.Memory.{frames_size};
 
-// Where the walk stands: the log's height, and the number of frames.
+// An extension with branches still to visit: its clause, the place of the next literal, and the log's height with the clause
+// spent.
 #[derive(Clone, Copy)]
-pub struct Level {
-    pub top: usize,
+pub struct Frame {
+    pub clause: usize,
+    pub next: usize,
+    pub height: usize,
+}
+
+// The frames as they lie in lent memory, three words each: there is no heap. The last extension is on top.
+#[derive(Drop)]
+pub struct Frames<'a> {
+    pub words: &'a mut [u64],
     pub depth: usize,
+    ghost enough_words: { frames_size ≤ length words.now },
+    ghost fits: { 3 * depth ≤ length words.now },
 }
 
-// The frame of an extension: its clause, the place of the next literal, and the log's height with the clause spent.
-fn push(frames: &mut [u64], depth: usize, clause: usize, next: usize, height: usize)
-    requires { 3 * depth + 2 < length frames.old }
-    ensures { frames.new ≡ framed frames.old depth clause next height }
-{
-    frames[3 * depth] = clause as u64;
-    frames[3 * depth + 1] = next as u64;
-    frames[3 * depth + 2] = height as u64;
-}
+impl Frames<'_> {
+    ghost use Rattle.checker.specs.Frames.{frame_at, framed};
 
-// Extends the clause of number k + 1, and enters the first branch.
-pub fn extend(
-    store: &[u64],
-    cells: &mut [u64],
-    log: &mut [u64],
-    frames: &mut [u64],
-    at: Level,
-    k: usize,
-) -> Level
-    requires extending { Extending store.now cells.old log.old frames.old at.top at.depth k }
-    requires in_range { k < most_clauses }
-    ensures { Extended store.now cells.old log.old frames.old at.top at.depth k
-        cells.new log.new frames.new result.top result.depth }
-{
-    let start = branch::start_of(store, k);
-    let weight = branch::weight_of(store, k);
-    let literal = branch::literal_at(store, start);
-    let height = branch::spend(cells, log, at.top, k);
-    push(frames, at.depth, k, start + 1, height);
-    let top = branch::gain(cells, log, height, literal, weight);
-    Level {
-        top: top,
-        depth: at.depth + 1,
+    pub fn push(&mut self, frame: Frame)
+        requires { 3 * self.old.depth + 2 < length self.old.words.now }
+        ensures words { self.new.words.now ≡ framed self.old.words.now self.old.depth frame }
+        ensures depth { self.new.depth ≡ self.old.depth + 1 }
+    {
+        let place = 3 * self.depth;
+        self.words[place] = frame.clause as u64;
+        self.words[place + 1] = frame.next as u64;
+        self.words[place + 2] = frame.height as u64;
+        self.depth += 1;
     }
-}
 
-// Enters the next branch of the frame `last`, from the state that the extension left. A frame goes with its last branch.
-pub fn turn(
-    store: &[u64],
-    cells: &mut [u64],
-    log: &mut [u64],
-    frames: &mut [u64],
-    top: usize,
-    last: usize,
-) -> Level
-    requires { Turning store.now cells.old log.old frames.old top (suc last) }
-    ensures { Turned store.now cells.old log.old frames.old top (suc last)
-        cells.new log.new frames.new result.top result.depth }
-{
-    let k = frames[3 * last] as usize;
-    let next = frames[3 * last + 1] as usize;
-    let height = frames[3 * last + 2] as usize;
-    journal::rewind(cells, log, top, height);
-    let literal = branch::literal_at(store, next);
-    let weight = branch::weight_of(store, k);
-    let end = branch::end_of(store, k);
-    let entered = branch::gain(cells, log, height, literal, weight);
-    if next + 1 == end {
-        return Level {
-            top: entered,
-            depth: last,
-        };
+    pub fn last(&self) -> Frame
+        requires { 1 ≤ self.now.depth }
+        ensures { result ≡ frame_at self.now.words.now (self.now.depth - 1) }
+    {
+        let place = 3 * (self.depth - 1);
+        Frame {
+            clause: self.words[place] as usize,
+            next: self.words[place + 1] as usize,
+            height: self.words[place + 2] as usize,
+        }
     }
-    frames[3 * last + 1] = (next + 1) as u64;
-    Level {
-        top: entered,
-        depth: last + 1,
+
+    // Sets the last frame's next literal.
+    pub fn advance(&mut self, next: usize)
+        requires { 1 ≤ self.old.depth }
+        ensures words { self.new.words.now ≡ set self.old.words.now (3 * (self.old.depth - 1) + 1) next }
+        ensures depth { self.new.depth ≡ self.old.depth }
+    {
+        self.words[3 * (self.depth - 1) + 1] = next as u64;
+    }
+
+    pub fn pop(&mut self)
+        requires { 1 ≤ self.old.depth }
+        ensures words { self.new.words.now ≡ self.old.words.now }
+        ensures depth { self.new.depth ≡ self.old.depth - 1 }
+    {
+        self.depth -= 1;
     }
 }

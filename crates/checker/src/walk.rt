@@ -1,80 +1,76 @@
-ghost use Rattle.std.specs.Prelude.{List, [], ◌∷◌, ◌≡◌, ◌≤◌, length, drop};
-ghost use Rattle.instance.specs.Memory.{cells_size, log_size, frames_size};
+ghost use Rattle.std.specs.Prelude.{List, [], ◌∷◌, ◌≡◌, drop};
 ghost use Rattle.instance.specs.Clause.{Problem};
-ghost use Rattle.instance.specs.Store.{Stored};
-ghost use Rattle.calculus.specs.Branch.{Branch, root};
+ghost use Rattle.instance.specs.Answers.{shown_by};
+ghost use Rattle.instance.specs.Store.{Given};
+ghost use Rattle.calculus.specs.Branch as calculus;
 ghost use Rattle.calculus.specs.Derivation.{walk as walked};
 ghost use Rattle.derivation.specs.Bytes.{items};
-ghost use Rattle.checker.specs.Walking.{Walk, Standing};
-ghost use Rattle.checker.specs.Moves.{OfVariables};
+ghost use Rattle.checker.specs.Desks.{Remains};
 
-use crate::frames::Level;
-use crate::records::{Decoded, decode};
-use crate::steps::{Move, step};
-use instance::{Checked, Claim, refusal};
+use crate::desk::Desk;
+use crate::frames::Frames;
+use crate::records::decode;
+use crate::steps::Step;
+use branch::Branch;
+use instance::{Claim, Fault, Held, Stage};
 
-// The records from the place `from` on, with no frame yet.
-fn run(
-    store: &[u64],
-    cells: &mut [u64],
-    log: &mut [u64],
-    frames: &mut [u64],
-    proof: &[u8],
-    from: usize,
-    n: usize,
-    claim: Claim,
-) -> Checked
-    requires { Standing (OfVariables n) store.now cells.old log.old frames.old 0 0 }
-    ensures { (I : Problem) (b : Branch) (bs : List Branch) → OfVariables n I
-        → Walk I store.now cells.old log.old frames.old 0 0 b bs
-        → result ≡ walked I claim (items (drop from proof.now)) from 0 (b ∷ bs) }
-{
-    let mut at = from;
-    let mut count: usize = 0;
-    let mut level = Level { top: 0, depth: 0 };
-    while at < proof.len() {
-        let Decoded::Whole(record, next) = decode(proof, at) else {
-            return Checked::Refused(refusal(14, at));
-        };
-        count += 1;
-        let moved = step(store, cells, log, frames, level, record, n, claim);
-        match moved {
-            Move::Stop(number) => {
-                return Checked::Refused(refusal(number, at));
-            }
-            Move::Last => {
-                if next == proof.len() {
-                    return Checked::Accepted(claim, count);
-                }
-                return Checked::Refused(refusal(20, next));
-            }
-            Move::On(l) => {
-                level = l;
-                at = next;
-            }
-        }
-    }
-    Checked::Refused(refusal(19, at))
+// The branch at work, and the frames of the other open branches. Which branches these are (`Standing`) is asked of each call: it is
+// data and no mere fact, and it does not hold in the middle of a step.
+#[derive(Drop)]
+pub struct Walk<'h, 'a> {
+    pub held: Held<'h>,
+    pub branch: Branch<'a>,
+    pub frames: Frames<'a>,
 }
 
-// The derivation after its claim, of the instance with n variables and k clauses that the store holds: the root's cells are
-// filled, then each record is taken in turn.
+impl Walk<'_, '_> {
+    ghost use Rattle.checker.specs.Walking.{Stands, Standing};
+
+    // The records from a place on, and how many they are.
+    fn run(&mut self, proof: &[u8], from: usize, claim: Claim) -> Result<usize, Stage>
+        requires { Standing self.old }
+        ensures { (I : Problem) (b : calculus.Branch) (bs : List calculus.Branch) → Stands I self.old b bs
+            → shown_by claim result ≡ walked I claim (items (drop from proof.now)) from 0 (b ∷ bs) }
+    {
+        // By hand: each record says where the next one begins.
+        let mut at = from;
+        let mut records = 0;
+        while at < proof.len() {
+            let Some((record, next)) = decode(proof, at) else {
+                return Err(Fault::NoRecord.at(at));
+            };
+            records += 1;
+            match self.step(record, claim).map_err(|fault| fault.at(at))? {
+                Step::GoesOn => at = next,
+                Step::AllClosed if next < proof.len() => return Err(Fault::BytesLeft.at(next)),
+                Step::AllClosed => return Ok(records),
+            }
+        }
+        Err(Fault::BranchOpen.at(at))
+    }
+}
+
+// The derivation after its claim: each record is taken in turn, from the root on.
 pub fn after_claim(
-    store: &[u64],
-    cells: &mut [u64],
-    log: &mut [u64],
-    frames: &mut [u64],
+    held: &Held,
+    desk: &mut Desk,
     proof: &[u8],
     from: usize,
-    n: usize,
-    k: usize,
     claim: Claim,
-) -> Checked
-    requires stored { (I : Problem) × Stored store.now I × (n ≡ I.variables) × (k ≡ length I.clauses) }
-    requires enough_memory { (cells_size ≤ length cells.old) × (log_size ≤ length log.old) × (frames_size ≤ length frames.old) }
-    ensures { (I : Problem) → Stored store.now I → n ≡ I.variables → k ≡ length I.clauses
-        → result ≡ walked I claim (items (drop from proof.now)) from 0 (root I.clauses ∷ []) }
+) -> Result<usize, Stage>
+    ensures shown { (I : Problem) → Given held.now.store.now held.now.counts.variables held.now.counts.clauses I
+        → shown_by claim result ≡ walked I claim (items (drop from proof.now)) from 0 (calculus.root I.clauses ∷ []) }
+    ensures same_memory { Remains desk.old desk.new }
 {
-    branch::root(store, cells, k);
-    run(store, cells, log, frames, proof, from, n, claim)
+    let mut walk = Walk {
+        held: *held,
+        branch: Branch::root(held, &mut *desk.cells, &mut *desk.log),
+        frames: Frames {
+            words: &mut *desk.frames,
+            depth: 0,
+        },
+    };
+    // Not the last expression: the call would lend the walk past its end.
+    let records = walk.run(proof, from, claim);
+    records
 }

@@ -1,5 +1,8 @@
 -- What each answer says in 01's numbers: the values that 01 names, in its order, or the refusal's number and place.
-use Rattle.std.specs.Prelude.{ℕ, List, [], ◌∷◌}
+use Rattle.std.specs.Prelude.{ℕ, List, [], ◌∷◌, Result, Ok, Err}
+use Rattle.instance.specs.declared.Instance.{Instance}
+use Rattle.instance.specs.declared.refusals.Stage.{Stage}
+use Rattle.instance.specs.declared.answers.Worth.{Worth}
 use Rattle.instance.specs.Refusals.{number_of, place_of}
 use Rattle.instance.specs.declared.answers.Claim.{Claim}
 use Rattle.instance.specs.declared.answers.Surveyed.{Surveyed}
@@ -38,3 +41,20 @@ check_told (Checked.Refused s) = refused (number_of s) (place_of s)
 unfoldable pub write_told : Written → Told
 write_told (Written.Derivation length records) = values (length ∷ records ∷ [])
 write_told (Written.Refused s) = refused (number_of s) (place_of s)
+
+-- ---- the same answers, as the functions below the five questions give them
+abbrev pub surveyed : Result Instance Stage → Surveyed
+surveyed (Ok i) = Surveyed.Counted i
+surveyed (Err s) = Surveyed.Refused s
+
+abbrev pub valued : Result Worth Stage → Valued
+valued (Ok w) = Valued.Worth w.first_broken w.falsified
+valued (Err s) = Valued.Refused s
+
+abbrev pub shown_by : Claim → Result ℕ Stage → Checked
+shown_by k (Ok records) = Checked.Accepted k records
+shown_by k (Err s) = Checked.Refused s
+
+abbrev pub checked : Result (Claim × ℕ) Stage → Checked
+checked (Ok shown) = Checked.Accepted shown.0 shown.1
+checked (Err s) = Checked.Refused s

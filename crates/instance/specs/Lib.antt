@@ -1,6 +1,9 @@
 pub mod Limits
 pub mod Refusals
+pub mod Faults
+pub mod Weights
 pub mod Answers
+pub mod Lines
 pub mod Clause
 pub mod Meaning
 pub mod Within

@@ -5,6 +5,7 @@ use Rattle.instance.specs.Limits.{most_clauses, most_literals}
 use Rattle.instance.specs.Memory.{store_size}
 use Rattle.instance.specs.Clause.{Literal, pos, neg, Weight, hard, soft, clause, Clause, Problem, tautology}
 use Rattle.instance.specs.Within.{Every, Within}
+use Rattle.instance.specs.declared.Instance.{Instance}
 
 -- where the weights, the flags and the literals begin; the ends begin at 0
 abbrev pub weights_at : ℕ
@@ -76,3 +77,11 @@ pub record Given (store : List ℕ) (n K : ℕ) (I : Problem) : Type 0 where
   pub stored : Stored store I
   pub variables : n ≡ I.variables
   pub clauses : K ≡ length I.clauses
+
+-- ---- the instance that a store holds, by its numbers
+abbrev pub problem_in : List ℕ → Instance → Problem
+problem_in store counts = record { variables = counts.variables; written = counts.written; clauses = clauses_in store counts.clauses }
+
+pub record Holds (store : List ℕ) (counts : Instance) : Type 0 where
+  pub laid : Laid store counts.variables counts.clauses
+  pub within : Within (problem_in store counts)

@@ -6,5 +6,7 @@ pub mod Literals
 pub mod Clauses
 pub mod Codes
 pub mod Store
+pub mod Facts
+pub mod Held
 pub mod Memory
 pub mod Weights

@@ -1,140 +1,93 @@
--- The steps at the front of a line: no token, a comment, or a clause's first token.
-use Prim.Native.Nat.{ℕ, suc, ◌+◌, ◌-◌, ◌≤◌, ◌<◌}
-use mathlib.Core.Bool.{false}
-use mathlib.Core.List.{List, []}
-use mathlib.Core.Path.{◌≡◌, sym, ap, ◌∙◌}
-use native.Mathlib.Omega.{arith}
-use borrow.Author.Tests.{eq-eqb, ne_eqb}
-use lib.Dec.{eqb}
-use lib.ListN.{length, get_or, take, drop, set}
-use lib.Seq.{drop-cons}
+-- The steps at the front of a clause's line: the text ends, or its first token is at fault or a weight.
+use Rattle.std.specs.Prelude.{ℕ, ◌+◌, ◌<◌, ◌≤◌, List, [], ◌≡◌, length, Result, Ok, Err}
+use Rattle.std.proofs.Common.{sym, ap, ◌∙◌, arith}
 use Rattle.instance.specs.Limits.{most_clauses, most_weight}
 use Rattle.instance.specs.Clause.{Problem, tautology, total_of}
-use Rattle.instance.specs.Store.{weights_at, flags_at, weight_of, flag_of}
+use Rattle.instance.specs.Faults.{numbered}
+use Rattle.instance.specs.Store.{flag_of}
+use Rattle.instance.specs.Weights.{meant, coded}
+use Rattle.instance.specs.Theorems.Weights.{soft_meant}
 use Rattle.instance.specs.declared.Instance.{Instance}
-use Rattle.instance.specs.declared.answers.Surveyed.{Surveyed}
-use Rattle.reader.specs.Words.{letter_c, First, weighs, first_word}
-use Rattle.reader.specs.Reading.{refused, comment, line_read, read_of}
+use Rattle.instance.specs.declared.faults.Fault.{Fault}
+use Rattle.instance.specs.declared.weights.Weight.{Weight}
+use Rattle.reader.specs.Words.{First, weighs, first_word}
+use Rattle.reader.specs.Reading.{refused, line_read, read_of}
 use Rattle.reader.specs.Survey.{counts}
-use Rattle.reader.specs.Spans.{in_line, past}
+use Rattle.reader.specs.Spans.{LineAt}
 use Rattle.reader.specs.Said.{opening_says, FirstSaid}
+use Rattle.reader.specs.Drafts.{Begins}
 use Rattle.reader.specs.Promise.{ReadAnswers}
+use Rattle.reader.specs.declared.drafts.Draft.{Draft}
 use Rattle.reader.proofs.Theorems.Limits.{Opens, first_taken, open_begun}
-use Rattle.reader.specs.declared.words.Opening.{Opening}
-use Rattle.reader.proofs.Spans.{past_within, TokenAt}
 use Rattle.reader.proofs.AtWork.{row_begun}
-use Rattle.reader.proofs.Lexing.{from, bytes_at}
-use Rattle.reader.proofs.Modes.{
-  between,
-  skipping,
-  inside,
-  on_text,
-  token_goes,
-  token_stops,
-  next_line,
-  last_line,
-  skip_line,
-}
-use Rattle.reader.proofs.States.{lent_same, Between, Inside, accepts}
-
--- a token's first byte
-first_byte : {text : List ℕ} {i at end : ℕ} → TokenAt text i at end → at < end
-    → comment (bytes_at text at end) ≡ eqb (get_or text at 0) letter_c
-unfolding comment
-first_byte {text} {i} {at} {end} t some =
-    let long : end - at ≡ suc (end - at - 1) = omega arith in
-    ap (λ (m : ℕ). comment (take m (drop at text))) long
-    ∙ ap (λ (bs : List ℕ). comment (take (suc (end - at - 1)) bs)) (drop-cons text at 0 (omega (arith, t.within)))
+use Rattle.reader.proofs.Lexing.{from}
+use Rattle.reader.proofs.Modes.{between, inside, on_text, text_lines, token_goes, token_stops, last_line}
+use Rattle.reader.proofs.States.{lent_begun, Between, opened, Inside, accepts}
 
 -- a clause's first token, and what the code says of it
-pub record Front (text : List ℕ) (counted : Instance) (i at end : ℕ) (r : Opening) : Type 0 where
-  pub token : TokenAt text i at end
-  pub some : at < end
-  pub plain : get_or text at 0 ≡ letter_c → ⊥
-  pub says : FirstSaid (bytes_at text at end) counted.clauses counted.total r
+pub record Front (text : List ℕ) (counts : Instance) (i place : ℕ) (bytes : List ℕ) (r : Result Weight Fault) : Type 0 where
+  pub line : LineAt text i place bytes
+  pub some : 0 < length bytes
+  pub says : FirstSaid bytes counts.clauses counts.total r
 
-module _ {text before store : List ℕ} {counted : Instance} {kept i : ℕ} (b : Between text before store counted kept i) where
+module _ {text before : List ℕ} {d : Draft} {i : ℕ} (b : Between text before d i) where
   abbrev I : Problem
   I = b.I
 
-  same_clauses : counted.clauses ≡ length I.clauses
+  same_clauses : d.counts.clauses ≡ length I.clauses
   unfolding counts
   same_clauses = ap (λ (k : Instance). k.clauses) b.counts_to
 
-  same_total : counted.total ≡ total_of I.clauses
+  same_total : d.counts.total ≡ total_of I.clauses
   unfolding counts
   same_total = ap (λ (k : Instance). k.total) b.counts_to
 
-  pub light : counted.total ≤ most_weight
+  pub light : d.counts.total ≤ most_weight
   light = omega (arith, same_total, b.sound.within.light)
 
-  moved : (j : ℕ) → j ≤ length text → on_text (between I) (from text i) ≡ on_text (between I) (from text j)
-      → Between text before store counted kept j
-  moved j h e = record {
-    I = I;
-    counts_to = b.counts_to;
-    sound = b.sound;
-    rows = b.rows;
-    shorter = b.shorter;
-    here = h;
-    lent = b.lent;
-    goes = b.goes ∙ e;
-  }
+  pub text_ends : {place : ℕ} {bytes : List ℕ} → LineAt text i place bytes → length bytes ≡ 0
+      → ReadAnswers text before (Ok d.counts) d.store.now
+  text_ends l none = accepts b (b.goes ∙ l.same I ∙ last_line l.token I (omega (arith, l.last none)))
 
-  module _ {at end : ℕ} (t : TokenAt text i at end) where
-    pub empty_line_lem : end ≤ at → at < length text → Between text before store counted kept (at + 1)
-    empty_line_lem l h = moved (at + 1) (omega arith) (next_line t I l h)
+  module _ {place : ℕ} {bytes : List ℕ} {r : Result Weight Fault} (f : Front text d.counts i place bytes r) where
+    goes : read_of text ≡ on_text (between I) (from text f.line.line)
+    goes = b.goes ∙ f.line.same I ∙ text_lines I (from text f.line.line)
 
-    pub text_ends : length text ≤ at → ReadAnswers text before (Surveyed.Counted counted) store
-    text_ends h = accepts b (b.goes ∙ last_line t I h)
-
-    pub comment_line : at < end → get_or text at 0 ≡ letter_c → (j : ℕ) → j ≡ past in_line text end
-        → Between text before store counted kept j
-    unfolding line_read
-    comment_line some c j e =
-        let skips = token_goes t (between I) some (skipping I)
-        (λ _ ts. rw (first_byte t some ∙ eq-eqb (get_or text at 0) letter_c c, line_read)) in
-        rw e (moved (past in_line text end) (past_within in_line text end t.within) (skips ∙ skip_line I text end))
-
-  module _ {at end : ℕ} {r : Opening} (f : Front text counted i at end r) where
-    no_comment : comment (bytes_at text at end) ≡ false
-    no_comment = first_byte f.token f.some ∙ ne_eqb (get_or text at 0) letter_c f.plain
-
-    first_is : {word : First} → opening_says r ≡ word → first_word I.clauses (bytes_at text at end) ≡ word
+    first_is : {word : First} → opening_says r ≡ word → first_word I.clauses bytes ≡ word
     first_is e = sym (f.says I.clauses same_clauses same_total) ∙ e
 
-    pub first_stops : {n : ℕ} → r ≡ Opening.Fault n → read_of text ≡ refused n at
+    pub first_stops : {fault : Fault} → r ≡ Err fault → read_of text ≡ refused (numbered fault) place
     unfolding line_read
-    first_stops {n} e =
-        b.goes
-        ∙ token_stops f.token (between I) f.some n at (λ _ ts. rw (no_comment, first_is (ap opening_says e), line_read))
+    first_stops {fault} e =
+        goes
+        ∙ token_stops f.line.token (between I) f.some (numbered fault) place
+        (λ _ ts. rw (f.line.plain, first_is (ap opening_says e), line_read))
 
-    weight_opens : {w : ℕ} → r ≡ Opening.Weight w → Opens I.clauses (weight_of w)
-    weight_opens {w} e =
-        first_taken I.clauses (bytes_at text at end) (weight_of w) b.sound.within.light (first_is (ap opening_says e))
+    weight_opens : {w : Weight} → r ≡ Ok w → Opens I.clauses (meant w)
+    weight_opens {w} e = first_taken I.clauses bytes (meant w) b.sound.within.light (first_is (ap opening_says e))
 
-    pub clause_fits : {w : ℕ} → r ≡ Opening.Weight w → counted.clauses < most_clauses
-    clause_fits e = omega (arith, same_clauses, (weight_opens e).fewer)
+    pub clause_fits : {w : Weight} → r ≡ Ok w → (d.counts.clauses < most_clauses) × (d.counts.total + coded w ≤ most_weight)
+    clause_fits {w} e =
+        let o = weight_opens e in
+        (omega (arith, same_clauses, o.fewer), omega (arith, same_total, o.lighter, soft_meant w))
 
-    pub clause_opens : {w clause : ℕ} {begun : List ℕ} → r ≡ Opening.Weight w → clause ≡ counted.clauses
-        → begun ≡ set (set store (weights_at + clause) w) (flags_at + clause) 0
-        → Inside text begun end begun counted kept end w clause kept
+    pub clause_opens : {w : Weight} {d' : Draft} → r ≡ Ok w → Begins d w d'
+        → Inside text before (place + length bytes) d' (place + length bytes)
     unfolding line_read flag_of tautology
-    clause_opens {w} {clause} {begun} e k s =
-        let number : clause ≡ length I.clauses = k ∙ same_clauses in
-        let word : first_word I.clauses (bytes_at text at end) ≡ weighs (weight_of w) = first_is (ap opening_says e) in
+    clause_opens {w} {d'} e s =
+        let o = weight_opens e in
+        let word : first_word I.clauses bytes ≡ weighs (meant w) = first_is (ap opening_says e) in
         record {
           I = I;
+          weight = w;
           ls = [];
-          counts_to = b.counts_to;
-          work = open_begun b.sound (weight_opens e);
-          number = number;
-          row = rw (s, number) (row_begun b.rows (weight_opens e).fewer w);
-          shorter = b.shorter;
+          counts_to = s.counts ∙ ap (λ (k : Instance). opened k w) b.counts_to;
+          work = open_begun b.sound o;
+          row = row_begun b.rows w o same_clauses s.store s.start s.kept;
           further = omega arith;
-          here = f.token.within;
-          lent = lent_same begun;
+          here = f.line.token.within;
+          lent = lent_begun (coded w) b.lent (clause_fits e).0 s.store;
           goes =
-              b.goes
-              ∙ token_goes f.token (between I) f.some (inside I (weight_of w) []) (λ _ ts. rw (no_comment, word, line_read));
+              goes
+              ∙ token_goes f.line.token (between I) f.some (inside I (meant w) []) (λ _ ts. rw (f.line.plain, word, line_read));
         }

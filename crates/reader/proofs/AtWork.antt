@@ -1,13 +1,8 @@
 -- The row of a clause at work, behind those of the clauses before it: how it begins, grows and is closed.
-use Prim.Native.Nat.{ℕ, suc, ◌+◌, ◌-◌, ◌≤◌, ◌<◌}
-use mathlib.Core.List.{List, [], ◌∷◌, ◌++◌, map, map-append}
-use mathlib.Core.Logic.{inl, inr}
-use mathlib.Core.Path.{◌≡◌, refl, ap, ◌∙◌}
-use native.Mathlib.Omega.{arith}
-use native.Mathlib.Numerals.{add-one}
-use borrow.Author.Count.{below_more}
-use lib.ListN.{length, get_or, drop, set, length-append, length-drop}
-use lib.Seq.{drop-set-add, take-suc-set, get_or-set_same, get_or-set_other}
+use Rattle.std.specs.Prelude.{ℕ, suc, ◌+◌, ◌-◌, ◌<◌, ◌≤◌, List, [], ◌∷◌, ◌++◌, map, ◌≡◌, refl, length, get_or, drop, set}
+use Rattle.std.proofs.Common.{ap, sym, ◌∙◌, inl, inr, arith, add-one, below_more, length-append, length-drop, get_or-set_same, get_or-set_other}
+use Rattle.std.proofs.lemmas.List.{map-append}
+use Rattle.std.proofs.Math.Seq.{drop-set-add, take-suc-set}
 use Rattle.instance.specs.Limits.{most_clauses, most_literals}
 use Rattle.instance.specs.Clause.{Literal, Weight, clause, Clause, tautology}
 use Rattle.instance.specs.Store.{
@@ -24,9 +19,14 @@ use Rattle.instance.specs.Store.{
   clause_in,
   clauses_in,
 }
-use Rattle.instance.specs.Within.{Every}
+use Rattle.instance.specs.Weights.{meant, coded}
+use Rattle.instance.specs.Within.{Every, Weighty}
+use Rattle.instance.specs.Theorems.Codes.{weight_soft}
+use Rattle.instance.specs.Theorems.Weights.{soft_meant}
+use Rattle.instance.specs.declared.weights.Weight as code
 use Rattle.instance.specs.Theorems.Every.{every_snoc, every_map}
-use Rattle.reader.specs.Keeping.{codes_from, literals_from}
+use Rattle.reader.specs.Drafts.{codes_from, literals_from}
+use Rattle.reader.proofs.Theorems.Limits.{Opens}
 use Rattle.reader.proofs.Rows.{Coded, coded_more, Rows, rows_more, part_kept, rows_set}
 
 -- the clauses cs, and a clause at work of weight w, flag f and literals ls
@@ -39,23 +39,30 @@ pub record Row (store : List ℕ) (n : ℕ) (cs : List Clause) (start kept : ℕ
   pub codes : Every (Coded n) (codes_from store start kept)
   pub literals : literals_from store start kept ≡ ls
 
-pub row_begun : {store : List ℕ} {n : ℕ} {cs : List Clause} {kept : ℕ} → Rows store n cs kept → length cs < most_clauses
-    → (w : ℕ) → Row (set (set store (weights_at + length cs) w) (flags_at + length cs) 0) n cs kept kept (weight_of w) 0 []
-row_begun {store} {n} {cs} {kept} r few w =
+-- a weight comes back from its code
+weight_back : (w : code.Weight) → Weighty (meant w) → weight_of (coded w) ≡ meant w
+weight_back w h = ap weight_of (sym (soft_meant w)) ∙ weight_soft (meant w) h
+
+pub row_begun : {store : List ℕ} {n : ℕ} {cs : List Clause} {kept : ℕ} → Rows store n cs kept
+    → (w : code.Weight) → Opens cs (meant w) → {k start' kept' : ℕ} {store' : List ℕ} → k ≡ length cs
+    → store' ≡ set (set store (weights_at + k) (coded w)) (flags_at + k) 0 → start' ≡ kept → kept' ≡ kept
+    → Row store' n cs start' kept' (meant w) 0 []
+row_begun {store} {n} {cs} {kept} r w o e f g h =
     let K = length cs in
-    let weighed = set store (weights_at + K) w in
+    let weighed = set store (weights_at + K) (coded w) in
     let none : kept - kept ≡ 0 = omega arith in
-    let rows = rows_set r (weights_at + K) w (omega arith) (inl (omega arith)) in
-    record {
-      rows = rows_set rows (flags_at + K) 0 (omega arith) (inl (omega arith));
+    let rows = rows_set r (weights_at + K) (coded w) (omega (arith, o.fewer)) (inl (omega (arith, o.fewer))) in
+    rw (f, e, g, h) (record {
+      rows = rows_set rows (flags_at + K) 0 (omega (arith, o.fewer)) (inl (omega (arith, o.fewer)));
       order = omega arith;
       weight = ap weight_of
-          (get_or-set_other weighed (flags_at + K) (weights_at + K) 0 0 (λ e. omega arith)
-          ∙ get_or-set_same store (weights_at + K) w 0 (omega (arith, r.laid.room)));
-      flag = get_or-set_same weighed (flags_at + K) 0 0 (omega (arith, rows.laid.room));
+          (get_or-set_other weighed (flags_at + K) (weights_at + K) 0 0 (λ x. omega arith)
+          ∙ get_or-set_same store (weights_at + K) (coded w) 0 (omega (arith, r.laid.room, o.fewer)))
+          ∙ weight_back w o.weighty;
+      flag = get_or-set_same weighed (flags_at + K) 0 0 (omega (arith, rows.laid.room, o.fewer));
       codes = rw none tt;
       literals = rw none refl;
-    }
+    })
 
 -- one more code at the end
 codes_grown : (store : List ℕ) (start kept code : ℕ) → start ≤ kept → literals_at + kept < length store
@@ -149,12 +156,13 @@ module _ {store : List ℕ} {n : ℕ} {cs : List Clause} {start kept : ℕ} {w :
   abbrev Flagged : ℕ → Type 0
   Flagged k = get_or done (flags_at + k) 0 ≡ flag_of (tautology (literals_in done k))
 
-  pub row_closed : Rows done n (cs ++ (closed ∷ [])) kept
-  row_closed =
+  pub row_closed : {k kept' : ℕ} {store' : List ℕ} → k ≡ L → store' ≡ set store k kept → kept' ≡ kept
+      → Rows store' n (cs ++ (closed ∷ [])) kept'
+  row_closed e f g =
       let laid = done_rows.laid in
       let long : length (cs ++ (closed ∷ [])) ≡ L + 1 = length-append cs (closed ∷ []) in
       let order : start_in done L ≤ end_in done L = rw (done_end, done_rows.next) r.order in
-      record {
+      rw (f, e, g) (record {
         clauses = rw long done_clauses;
         laid = rw long (record {
           room = laid.room;
@@ -165,4 +173,4 @@ module _ {store : List ℕ} {n : ℕ} {cs : List Clause} {start kept : ℕ} {w :
           flags = below_more Flagged L laid.flags done_flag;
         });
         next = rw (long, add-one) done_end;
-      }
+      })

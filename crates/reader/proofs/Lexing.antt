@@ -1,16 +1,10 @@
 -- The lines of a text from a place on: what stands there first.
-use Prim.Native.Nat.{ℕ, suc, ◌+◌, ◌-◌, ◌≤◌, ◌<◌}
-use mathlib.Core.Bool.{Bool, true, false, not}
-use mathlib.Core.List.{List, [], ◌∷◌}
-use mathlib.Core.Path.{◌≡◌, refl, sym, ap, ◌∙◌}
-use native.Mathlib.Omega.{arith}
-use native.Mathlib.Numerals.{add-one}
-use native.Mathlib.Decide.{dec_le}
-use native.Mathlib.Nat.{add-zero, lt_of_not-le}
-use borrow.Author.Tests.{ne_eqb, not-true, not-false}
-use lib.Dec.{eqb}
-use lib.ListN.{length, get_or, take, drop, drop_of_length-le}
-use lib.Seq.{drop-cons, drop-drop}
+use Rattle.std.specs.Prelude.{ℕ, suc, ◌+◌, ◌<◌, ◌≤◌, Bool, true, false, not, List, [], ◌∷◌, ◌≡◌, refl, eqb, length, get_or, take, drop}
+use Rattle.std.specs.List.{prefix_len}
+use Rattle.std.proofs.Common.{sym, ap, ◌∙◌, arith, add-zero, add-one, ne_eqb, drop-cons, drop-drop, drop_of_length-le}
+use Rattle.std.proofs.Math.Decide.{dec_le}
+use Rattle.std.proofs.lemmas.Bool.{not-true, not-false}
+use Rattle.std.proofs.lemmas.List.Folds.{length-prefix_len}
 use Rattle.instance.specs.Theorems.Choices.{on_test, never, both}
 use Rattle.reader.specs.Lines.{
   line_feed,
@@ -24,8 +18,8 @@ use Rattle.reader.specs.Lines.{
   starts_in_token,
   lines,
 }
-use Rattle.reader.specs.Spans.{span, past}
-use Rattle.reader.proofs.Spans.{span_more, span_stop, span_none, span_after, TokenAt}
+use Rattle.reader.specs.Spans.{past, TokenAt}
+use Rattle.reader.proofs.Spans.{span_more, span_stop, span_none, span_after}
 
 -- the lines of a text from a place on
 abbrev pub from : List ℕ → ℕ → List Line
@@ -71,15 +65,14 @@ module _ (p b : ℕ) (bs : List ℕ) where
   lines_begun e f = let (d, g) = inner_parts b e in rw (g, d, f, lines)
 
 -- ---- blanks and a token in front
-lines_blanks : (p : ℕ) (bs : List ℕ) → lines p bs ≡ lines (p + span blank bs) (drop (span blank bs) bs)
-unfolding span
+lines_blanks : (p : ℕ) (bs : List ℕ) → lines p bs ≡ lines (p + prefix_len blank bs) (drop (prefix_len blank bs) bs)
 lines_blanks p [] = rw add-zero
 lines_blanks p (b ∷ bs) = go (blank b) refl (lines_blanks (suc p) bs)
   where
-    go : (t : Bool) → blank b ≡ t → lines (suc p) bs ≡ lines (suc p + span blank bs) (drop (span blank bs) bs)
-        → lines p (b ∷ bs) ≡ lines (p + span blank (b ∷ bs)) (drop (span blank (b ∷ bs)) (b ∷ bs))
+    go : (t : Bool) → blank b ≡ t → lines (suc p) bs ≡ lines (suc p + prefix_len blank bs) (drop (prefix_len blank bs) bs)
+        → lines p (b ∷ bs) ≡ lines (p + prefix_len blank (b ∷ bs)) (drop (prefix_len blank (b ∷ bs)) (b ∷ bs))
     go true e h =
-        let n : p + suc (span blank bs) ≡ suc p + span blank bs = omega arith in
+        let n : p + suc (prefix_len blank bs) ≡ suc p + prefix_len blank bs = omega arith in
         rw (span_more blank b bs e, n) (lines_blank p b bs e ∙ h)
     go false e h = rw (span_stop blank b bs e, add-zero)
 
@@ -97,8 +90,8 @@ unfolding on_first begun
 push_begun p b [] = refl
 push_begun p b (l ∷ ls) = refl
 
-no_token : (bs : List ℕ) → starts_in_token bs ≡ false → span in_token bs ≡ 0
-unfolding span starts_in_token
+no_token : (bs : List ℕ) → starts_in_token bs ≡ false → prefix_len in_token bs ≡ 0
+unfolding starts_in_token
 no_token [] e = refl
 no_token (b ∷ bs) e = span_stop in_token b bs e
 
@@ -106,25 +99,22 @@ no_token (b ∷ bs) e = span_stop in_token b bs e
 abbrev Front : ℕ → List ℕ → ℕ → Type 0
 Front p bs n = lines p bs ≡ push (token_of p (take n bs)) (lines (p + n) (drop n bs))
 
-lines_token : (p : ℕ) (bs : List ℕ) → starts_in_token bs ≡ true → Front p bs (span in_token bs)
+lines_token : (p : ℕ) (bs : List ℕ) → starts_in_token bs ≡ true → Front p bs (prefix_len in_token bs)
 unfolding starts_in_token
 lines_token p [] h = never (sym h)
 lines_token p (b ∷ bs) h = go (starts_in_token bs) refl (lines_token (suc p) bs)
   where
-    go : (t : Bool) → starts_in_token bs ≡ t → (starts_in_token bs ≡ true → Front (suc p) bs (span in_token bs))
-        → Front p (b ∷ bs) (span in_token (b ∷ bs))
+    go : (t : Bool) → starts_in_token bs ≡ t → (starts_in_token bs ≡ true → Front (suc p) bs (prefix_len in_token bs))
+        → Front p (b ∷ bs) (prefix_len in_token (b ∷ bs))
     go true e ih =
-        let n : p + suc (span in_token bs) ≡ suc p + span in_token bs = omega arith in
+        let n : p + suc (prefix_len in_token bs) ≡ suc p + prefix_len in_token bs = omega arith in
         rw (span_more in_token b bs h, n)
         (lines_widened p b bs h e ∙ ap (on_first (widened p b)) (ih e)
-        ∙ push_widened p b (suc p) (take (span in_token bs) bs) (lines (suc p + span in_token bs) (drop (span in_token bs) bs)))
+        ∙ push_widened p b (suc p) (take (prefix_len in_token bs) bs)
+        (lines (suc p + prefix_len in_token bs) (drop (prefix_len in_token bs) bs)))
     go false e ih =
         let n : p + 1 ≡ suc p = omega arith in
         rw (span_more in_token b bs h, no_token bs e, n) (lines_begun p b bs h e ∙ push_begun p b (lines (suc p) bs))
-
--- the bytes from one place to another
-abbrev pub bytes_at : List ℕ → ℕ → ℕ → List ℕ
-bytes_at text at end = take (end - at) (drop at text)
 
 -- there is always a first line
 abbrev Some : List Line → Type 0
@@ -145,52 +135,54 @@ lines_some p (b ∷ bs) =
     (λ _. some_first (begun p b) (lines (suc p) bs) more)
 
 -- ---- the same of a text, at a token that was looked for from i on
-module _ {text : List ℕ} {i at end : ℕ} (t : TokenAt text i at end) where
-  pub from_blanks : from text i ≡ from text at
+module _ {text : List ℕ} {i place : ℕ} {bytes : List ℕ} (t : TokenAt text i place bytes) where
+  pub from_blanks : from text i ≡ from text place
   from_blanks =
       lines_blanks i (drop i text)
-      ∙ ap (lines (past blank text i)) (drop-drop (span blank (drop i text)) i text)
+      ∙ ap (lines (past blank text i)) (drop-drop (prefix_len blank (drop i text)) i text)
       ∙ ap (from text) (sym t.starts)
 
   abbrev pub found : Token
-  found = token_of at (bytes_at text at end)
+  found = token_of place bytes
 
-  pub from_token : at < end → from text i ≡ push found (from text end)
+  width : length bytes ≡ prefix_len in_token (drop place text)
+  width = ap length t.run ∙ length-prefix_len in_token (drop place text)
+
+  pub from_token : 0 < length bytes → from text i ≡ push found (from text (place + length bytes))
   from_token h =
-      let wide : span in_token (drop at text) ≡ end - at = omega (arith, t.ends) in
-      let last : at + (end - at) ≡ end = omega arith in
-      let some : starts_in_token (drop at text) ≡ true = starts (drop at text) (omega (arith, t.ends)) in
-      from_blanks ∙ lines_token at (drop at text) some ∙ rw (wide, drop-drop, last)
+      let some : starts_in_token (drop place text) ≡ true = starts (drop place text) (omega (arith, width)) in
+      from_blanks ∙ lines_token place (drop place text) some ∙ rw (t.run, length-prefix_len, drop-drop)
     where
-      starts : (bs : List ℕ) → 0 < span in_token bs → starts_in_token bs ≡ true
+      starts : (bs : List ℕ) → 0 < prefix_len in_token bs → starts_in_token bs ≡ true
       starts bs l = go (starts_in_token bs) refl
         where
           go : (b : Bool) → starts_in_token bs ≡ b → starts_in_token bs ≡ true
           go true e = e
           go false e = absurd (omega (arith, no_token bs e))
 
-  no_blank : span blank (drop at text) ≡ 0
+  no_blank : prefix_len blank (drop place text) ≡ 0
   no_blank =
-      ap (λ (m : ℕ). span blank (drop m text)) t.starts
-      ∙ ap (span blank) (sym (drop-drop (span blank (drop i text)) i text))
+      ap (λ (m : ℕ). prefix_len blank (drop m text)) t.starts
+      ∙ ap (prefix_len blank) (sym (drop-drop (prefix_len blank (drop i text)) i text))
       ∙ span_after blank (drop i text)
 
-  pub from_last : length text ≤ at → from text i ≡ empty_line at ∷ []
+  pub from_last : length text ≤ place → from text i ≡ empty_line place ∷ []
   unfolding lines
-  from_last h = from_blanks ∙ ap (lines at) (drop_of_length-le text h)
+  from_last h = from_blanks ∙ ap (lines place) (drop_of_length-le text h)
 
-  pub from_feed : end ≤ at → at < length text → from text i ≡ empty_line at ∷ from text (at + 1)
+  pub from_feed : length bytes ≡ 0 → place < length text → from text i ≡ empty_line place ∷ from text (place + 1)
   from_feed l h =
-      let b = get_or text at 0 in
-      let rest = drop-cons text at 0 h in
-      let e : blank b ≡ false = span_none blank b (drop (suc at) text) (sym (ap (span blank) rest) ∙ no_blank) in
-      let f : in_token b ≡ false = span_none in_token b (drop (suc at) text) (omega (arith, t.ends, ap (span in_token) rest)) in
-      from_blanks ∙ rw (add-one, rest) (lines_feed at b (drop (suc at) text) (feed_left b e f))
+      let b = get_or text place 0 in
+      let rest = drop-cons text place 0 h in
+      let e : blank b ≡ false = span_none blank b (drop (suc place) text) (sym (ap (prefix_len blank) rest) ∙ no_blank) in
+      let f : in_token b ≡ false =
+      span_none in_token b (drop (suc place) text) (omega (arith, width, ap (prefix_len in_token) rest)) in
+      from_blanks ∙ rw (add-one, rest) (lines_feed place b (drop (suc place) text) (feed_left b e f))
 
   -- no token: the line ends here
-  pub from_stop : end ≤ at → (ls : List Line) × (from text i ≡ empty_line at ∷ ls)
-  from_stop l = go (dec_le (length text) at)
+  pub from_stop : length bytes ≡ 0 → (ls : List Line) × (from text i ≡ empty_line place ∷ ls)
+  from_stop l = go (dec_le (length text) place)
     where
-      go : Dec (length text ≤ at) → (ls : List Line) × (from text i ≡ empty_line at ∷ ls)
+      go : Dec (length text ≤ place) → (ls : List Line) × (from text i ≡ empty_line place ∷ ls)
       go (yes h) = ([], from_last h)
-      go (no h) = (from text (at + 1), from_feed l (lt_of_not-le h))
+      go (no h) = (from text (place + 1), from_feed l (omega (arith, h)))

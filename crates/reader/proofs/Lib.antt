@@ -1,7 +1,7 @@
 pub mod Theorems
-pub mod Rest
 pub mod Spans
 pub mod Digits
+pub mod Bytes
 pub mod FirstWords
 pub mod LaterWords
 pub mod Rows

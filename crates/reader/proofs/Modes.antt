@@ -1,20 +1,14 @@
 -- What reading comes to from a place in the text, by what the line at that place is taken for.
-use Prim.Native.Nat.{ℕ, suc, ◌+◌, ◌≤◌, ◌<◌}
-use mathlib.Core.Bool.{Bool, true, false}
-use mathlib.Core.List.{List, [], ◌∷◌}
-use mathlib.Core.Path.{◌≡◌, refl, sym, ap, ◌∙◌}
-use native.Mathlib.Omega.{arith}
-use native.Mathlib.Nat.{add-zero}
-use borrow.Author.Tests.{not-true, not-false}
-use lib.Dec.{eqb}
-use lib.ListN.{length, drop}
-use lib.Seq.{drop-drop}
+use Rattle.std.specs.Prelude.{ℕ, suc, ◌+◌, ◌<◌, ◌≤◌, Bool, true, false, List, [], ◌∷◌, ◌≡◌, refl, eqb, length, drop}
+use Rattle.std.specs.List.{prefix_len}
+use Rattle.std.proofs.Common.{sym, ap, ◌∙◌, arith, add-zero, drop-drop}
+use Rattle.std.proofs.lemmas.Bool.{not-true, not-false}
 use Rattle.instance.specs.Clause.{Literal, Weight, Problem}
 use Rattle.instance.specs.Theorems.Choices.{on_test, never}
 use Rattle.reader.specs.Lines.{line_feed, blank, Token, Line, on_first, begun, widened, starts_in_token, lines}
-use Rattle.reader.specs.Reading.{Reading, read, refused, ended, clause_from, line_read, lines_read}
-use Rattle.reader.specs.Spans.{in_line, span, past}
-use Rattle.reader.proofs.Spans.{span_more, span_stop, span_none, span_after, TokenAt}
+use Rattle.reader.specs.Reading.{Reading, read, refused, ended, clause_from, comment, line_read, lines_read}
+use Rattle.reader.specs.Spans.{in_line, past, TokenAt}
+use Rattle.reader.proofs.Spans.{span_more, span_stop, span_none, span_after}
 use Rattle.reader.proofs.Lexing.{from, lines_feed, lines_some, found, from_token, from_last, from_feed, from_stop}
 
 -- at the front of a line, inside a comment, inside a clause, after its 0
@@ -45,41 +39,41 @@ text_lines I [] = refl
 text_lines I (l ∷ ls) = refl
 
 -- ---- at a token, the line goes on in another mode, or reading stops
-module _ {text : List ℕ} {i at end : ℕ} (t : TokenAt text i at end) (m : Mode) where
-  module _ (some : at < end) where
+module _ {text : List ℕ} {i place : ℕ} {bytes : List ℕ} (t : TokenAt text i place bytes) (m : Mode) where
+  module _ (some : 0 < length bytes) where
     pub token_goes : (m' : Mode) → ((e : ℕ) (ts : List Token) → on_line m e (found t ∷ ts) ≡ on_line m' e ts)
-        → on_text m (from text i) ≡ on_text m' (from text end)
+        → on_text m (from text i) ≡ on_text m' (from text (place + length bytes))
     unfolding on_first
     token_goes m' h =
-        let (l, ls, e) = lines_some end (drop end text) in
+        let (l, ls, e) = lines_some (place + length bytes) (drop (place + length bytes) text) in
         rw (from_token t some, e) (ap (λ (r : Reading). and_then r ls) (h l.end l.tokens))
 
     pub token_stops : (n p : ℕ) → ((e : ℕ) (ts : List Token) → on_line m e (found t ∷ ts) ≡ refused n p)
         → on_text m (from text i) ≡ refused n p
     unfolding on_first
     token_stops n p h =
-        let (l, ls, e) = lines_some end (drop end text) in
+        let (l, ls, e) = lines_some (place + length bytes) (drop (place + length bytes) text) in
         rw (from_token t some, e) (ap (λ (r : Reading). and_then r ls) (h l.end l.tokens))
 
   -- the line ends
-  module _ (none : end ≤ at) where
-    pub line_stops : (n p : ℕ) → on_line m at [] ≡ refused n p → on_text m (from text i) ≡ refused n p
+  module _ (none : length bytes ≡ 0) where
+    pub line_stops : (n p : ℕ) → on_line m place [] ≡ refused n p → on_text m (from text i) ≡ refused n p
     line_stops n p h =
         let (ls, e) = from_stop t none in
         rw e (ap (λ (r : Reading). and_then r ls) h)
 
-    pub line_goes : (m' : Mode) → on_line m at [] ≡ on_line m' at [] → on_text m (from text i) ≡ on_text m' (from text i)
+    pub line_goes : (m' : Mode) → on_line m place [] ≡ on_line m' place [] → on_text m (from text i) ≡ on_text m' (from text i)
     line_goes m' h =
         let (ls, e) = from_stop t none in
         rw e (ap (λ (r : Reading). and_then r ls) h)
 
 -- ---- from line to line
-module _ {text : List ℕ} {i at end : ℕ} (t : TokenAt text i at end) (I : Problem) where
-  pub next_line : end ≤ at → at < length text → on_text (between I) (from text i) ≡ on_text (between I) (from text (at + 1))
-  unfolding line_read
-  next_line l h = rw (from_feed t l h) (text_lines I (from text (at + 1)))
+module _ {text : List ℕ} {i place : ℕ} {bytes : List ℕ} (t : TokenAt text i place bytes) (I : Problem) where
+  pub empty_goes : length bytes ≡ 0 → place < length text → lines_read I (from text i) ≡ lines_read I (from text (place + 1))
+  unfolding line_read lines_read
+  empty_goes l h = rw (from_feed t l h)
 
-  pub last_line : length text ≤ at → on_text (between I) (from text i) ≡ read I
+  pub last_line : length text ≤ place → lines_read I (from text i) ≡ read I
   unfolding line_read lines_read
   last_line h = rw (from_last t h)
 
@@ -106,28 +100,38 @@ module _ (I : Problem) where
   abbrev Skips : ℕ → List ℕ → ℕ → Type 0
   Skips p bs n = on_text (skipping I) (lines p bs) ≡ on_text (skipping I) (lines (p + n) (drop n bs))
 
-  skip_bytes : (p : ℕ) (bs : List ℕ) → Skips p bs (span in_line bs)
-  unfolding span
+  skip_bytes : (p : ℕ) (bs : List ℕ) → Skips p bs (prefix_len in_line bs)
   skip_bytes p [] = rw add-zero
   skip_bytes p (b ∷ bs) = go (in_line b) refl (skip_bytes (suc p) bs)
     where
-      go : (t : Bool) → in_line b ≡ t → Skips (suc p) bs (span in_line bs) → Skips p (b ∷ bs) (span in_line (b ∷ bs))
+      go : (t : Bool) → in_line b ≡ t → Skips (suc p) bs (prefix_len in_line bs) → Skips p (b ∷ bs) (prefix_len in_line (b ∷ bs))
       go true e h =
-          let n : p + suc (span in_line bs) ≡ suc p + span in_line bs = omega arith in
+          let n : p + suc (prefix_len in_line bs) ≡ suc p + prefix_len in_line bs = omega arith in
           rw (span_more in_line b bs e, n) (skip_byte p b bs e ∙ h)
       go false e h = rw (span_stop in_line b bs e, add-zero)
 
-  skip_end : (p : ℕ) (bs : List ℕ) → span in_line bs ≡ 0 → on_text (skipping I) (lines p bs) ≡ on_text (between I) (lines p bs)
+  skip_end : (p : ℕ) (bs : List ℕ) → prefix_len in_line bs ≡ 0
+      → on_text (skipping I) (lines p bs) ≡ on_text (between I) (lines p bs)
   unfolding lines line_read in_line
   skip_end p [] h = refl
   skip_end p (b ∷ bs) h =
       rw (lines_feed p b bs (not-false (eqb b line_feed) (span_none in_line b bs h)))
 
-  pub skip_line : (text : List ℕ) (i : ℕ)
+  skip_line : (text : List ℕ) (i : ℕ)
       → on_text (skipping I) (from text i) ≡ on_text (between I) (from text (past in_line text i))
   skip_line text i =
       let j = past in_line text i in
-      let rest = drop-drop (span in_line (drop i text)) i text in
+      let rest = drop-drop (prefix_len in_line (drop i text)) i text in
       skip_bytes i (drop i text)
       ∙ ap (λ (bs : List ℕ). on_text (skipping I) (lines j bs)) rest
-      ∙ skip_end j (drop j text) (ap (span in_line) (sym rest) ∙ span_after in_line (drop i text))
+      ∙ skip_end j (drop j text) (ap (prefix_len in_line) (sym rest) ∙ span_after in_line (drop i text))
+
+  pub comment_goes : {text : List ℕ} {i place : ℕ} {bytes : List ℕ} → TokenAt text i place bytes → 0 < length bytes
+      → comment bytes ≡ true → lines_read I (from text i) ≡ lines_read I (from text (past in_line text (place + length bytes)))
+  unfolding line_read
+  comment_goes {text} {i} {place} {bytes} t some c =
+      let end = place + length bytes in
+      text_lines I (from text i)
+      ∙ token_goes t (between I) some (skipping I) (λ _ ts. rw (c, line_read))
+      ∙ skip_line text end
+      ∙ sym (text_lines I (from text (past in_line text end)))

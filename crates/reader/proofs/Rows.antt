@@ -1,11 +1,8 @@
 -- The rows of the clauses in the store: a store outside of them leaves them as they are.
-use Prim.Native.Nat.{ℕ, zero, suc, ◌+◌, ◌-◌, ◌/◌, ◌≤◌, ◌<◌}
-use mathlib.Core.List.{List, []}
-use mathlib.Core.Logic.{◌⊎◌, inl, inr}
-use mathlib.Core.Path.{◌≡◌, refl, ap, ◌∙◌}
-use native.Mathlib.Omega.{arith}
-use lib.ListN.{length, get_or, take, drop, set, length-set}
-use lib.Seq.{drop-set-lt, drop-set-add, take-set-le, get_or-set_other}
+use Rattle.std.specs.Prelude.{ℕ, zero, suc, ◌+◌, ◌-◌, ◌/◌, ◌<◌, ◌≤◌, List, [], ◌⊎◌, ◌≡◌, refl, length, get_or, take, drop, set}
+use Rattle.std.proofs.Common.{ap, ◌∙◌, inl, inr, arith, length-set, get_or-set_other}
+use Rattle.std.proofs.lemmas.List.{drop-set-lt, take-set-le}
+use Rattle.std.proofs.Math.Seq.{drop-set-add}
 use Rattle.instance.specs.Clause.{Clause}
 use Rattle.instance.specs.Memory.{store_size}
 use Rattle.instance.specs.Store.{weights_at, flags_at, literals_at, start_in, end_in, codes_in, clause_in, clauses_in, Laid}

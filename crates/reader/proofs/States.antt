@@ -1,34 +1,34 @@
 -- Where the reader stands: between lines, or inside a clause. What it has read, what the store holds of it, and what is still
 -- to be read; the promise when reading ends.
-use Prim.Native.Nat.{ℕ, ◌+◌, ◌≤◌, ◌<◌}
-use mathlib.Core.List.{List}
-use mathlib.Core.Path.{◌≡◌, refl, ap, subst, ◌∙◌}
-use native.Mathlib.Omega.{arith}
-use lib.ListN.{length, drop, set, length-set}
-use lib.Seq.{drop-set-lt}
+use Rattle.std.specs.Prelude.{ℕ, ◌+◌, ◌<◌, ◌≤◌, List, ◌≡◌, refl, length, drop, set, Result, Ok, Err}
+use Rattle.std.proofs.Common.{ap, subst, ◌∙◌, arith, length-set}
+use Rattle.std.proofs.lemmas.List.{drop-set-lt}
 use Rattle.instance.specs.Limits.{most_clauses}
 use Rattle.instance.specs.Clause.{Literal, Problem, tautology}
 use Rattle.instance.specs.Memory.{store_size}
 use Rattle.instance.specs.Refusals.{staged}
-use Rattle.instance.specs.Store.{weights_at, flags_at, weight_of, flag_of, Stored}
+use Rattle.instance.specs.Store.{weights_at, flags_at, flag_of, Stored}
+use Rattle.instance.specs.Weights.{meant, coded}
 use Rattle.instance.specs.declared.Instance.{Instance}
 use Rattle.instance.specs.declared.answers.Surveyed.{Surveyed}
-use Rattle.reader.specs.Lines.{lines}
-use Rattle.reader.specs.Reading.{read, refused, nothing, read_of}
+use Rattle.instance.specs.declared.refusals.Stage.{Stage}
+use Rattle.instance.specs.declared.weights.Weight.{Weight}
+use Rattle.reader.specs.Reading.{read, refused, nothing, lines_read, read_of}
 use Rattle.reader.specs.Survey.{counts, survey_of}
 use Rattle.reader.specs.Promise.{ReadAnswers}
+use Rattle.reader.specs.declared.drafts.Draft.{Draft}
 use Rattle.reader.proofs.Theorems.Limits.{Sound, Open, nothing_sound}
 use Rattle.reader.proofs.Rows.{Rows, rows_none}
 use Rattle.reader.proofs.AtWork.{Row}
 use Rattle.reader.proofs.Lexing.{from}
-use Rattle.reader.proofs.Modes.{between, inside, on_text, text_lines}
+use Rattle.reader.proofs.Modes.{inside, on_text}
 
 -- ---- the lent store is the caller's beyond its constant
 pub record Lent (before store : List ℕ) : Type 0 where
   pub long : length store ≡ length before
   pub beyond : drop store_size store ≡ drop store_size before
 
-pub lent_same : (store : List ℕ) → Lent store store
+lent_same : (store : List ℕ) → Lent store store
 lent_same store = record { long = refl; beyond = refl }
 
 pub lent_set : {before store : List ℕ} → Lent before store → (j v : ℕ) → j < store_size → Lent before (set store j v)
@@ -37,58 +37,55 @@ lent_set {before} {store} l j v h = record {
   beyond = drop-set-lt store_size store j v h ∙ l.beyond;
 }
 
-pub lent_then : {before between store : List ℕ} → Lent before between → Lent between store → Lent before store
-lent_then k l = record { long = l.long ∙ k.long; beyond = l.beyond ∙ k.beyond }
-
 -- a clause's row begins
-pub lent_begun : {before store begun : List ℕ} {clause : ℕ} (w : ℕ) → Lent before store → clause < most_clauses
-    → begun ≡ set (set store (weights_at + clause) w) (flags_at + clause) 0 → Lent before begun
-lent_begun {clause = k} w l h e =
+pub lent_begun : {before store store' : List ℕ} {k : ℕ} (w : ℕ) → Lent before store → k < most_clauses
+    → store' ≡ set (set store (weights_at + k) w) (flags_at + k) 0 → Lent before store'
+lent_begun {k = k} w l h e =
     rw e (lent_set (lent_set l (weights_at + k) w (omega arith)) (flags_at + k) 0 (omega arith))
 
 -- ---- between lines: the instance I is read, and the lines from i on are still to be read
-pub record Between (text before store : List ℕ) (counted : Instance) (kept i : ℕ) : Type 0 where
+pub record Between (text before : List ℕ) (d : Draft) (i : ℕ) : Type 0 where
   pub I : Problem
-  pub counts_to : counted ≡ counts I
+  pub counts_to : d.counts ≡ counts I
   pub sound : Sound I
-  pub rows : Rows store I.variables I.clauses kept
-  pub shorter : kept ≤ I.written
+  pub rows : Rows d.store.now I.variables I.clauses d.kept
   pub here : i ≤ length text
-  pub lent : Lent before store
-  pub goes : read_of text ≡ on_text (between I) (from text i)
+  pub lent : Lent before d.store.now
+  pub goes : read_of text ≡ lines_read I (from text i)
 
-pub begins : (text store : List ℕ) (counted : Instance) → counted ≡ counts nothing → store_size ≤ length store
-    → Between text store store counted 0 0
+pub begins : {text before : List ℕ} {d : Draft} → d.store.now ≡ before → d.counts ≡ counts nothing → d.kept ≡ 0
+    → Between text before d 0
 unfolding read_of nothing
-begins text store counted e room = record {
+begins {text} {d = d} s e none = record {
   I = nothing;
   counts_to = e;
   sound = nothing_sound;
-  rows = rows_none store room;
-  shorter = omega arith;
+  rows = rw none (rows_none d.store.now d.room);
   here = omega arith;
-  lent = lent_same store;
-  goes = text_lines nothing (lines 0 text);
+  lent = subst (λ (b : List ℕ). Lent b d.store.now) s (lent_same d.store.now);
+  goes = refl;
 }
 
--- ---- inside a clause: beside the instance I, the literals ls of a clause of this weight are read
-pub record Inside (text before : List ℕ) (i₀ : ℕ) (store : List ℕ) (counted : Instance) (kept i weight clause start : ℕ)
-    : Type 0 where
+-- ---- inside a clause: beside the instance I, the literals ls of a clause of some weight are read
+-- its weight is counted, and itself not yet
+abbrev pub opened : Instance → Weight → Instance
+opened i w = record i { total = i.total + coded w }
+
+pub record Inside (text before : List ℕ) (i₀ : ℕ) (d : Draft) (i : ℕ) : Type 0 where
   pub I : Problem
+  pub weight : Weight
   pub ls : List Literal
-  pub counts_to : counted ≡ counts I
-  pub work : Open I (weight_of weight) ls
-  pub number : clause ≡ length I.clauses
-  pub row : Row store I.variables I.clauses start kept (weight_of weight) (flag_of (tautology ls)) ls
-  pub shorter : kept ≤ I.written
+  pub counts_to : d.counts ≡ opened (counts I) weight
+  pub work : Open I (meant weight) ls
+  pub row : Row d.store.now I.variables I.clauses d.start d.kept (meant weight) (flag_of (tautology ls)) ls
   pub further : i₀ ≤ i
   pub here : i ≤ length text
-  pub lent : Lent before store
-  pub goes : read_of text ≡ on_text (inside I (weight_of weight) ls) (from text i)
+  pub lent : Lent before d.store.now
+  pub goes : read_of text ≡ on_text (inside I (meant weight) ls) (from text i)
 
 -- ---- the promise
 pub refuses : {text before store : List ℕ} {n p : ℕ} → read_of text ≡ refused n p → Lent before store
-    → ReadAnswers text before (Surveyed.Refused (staged n p)) store
+    → ReadAnswers text before (Err (staged n p)) store
 unfolding survey_of
 refuses {n = n} {p = p} e l = record {
   answer = rw (e, survey_of);
@@ -97,11 +94,12 @@ refuses {n = n} {p = p} e l = record {
   long = l.long;
 }
 
-pub accepts : {text before store : List ℕ} {counted : Instance} {kept i : ℕ} (b : Between text before store counted kept i)
-    → read_of text ≡ read b.I → ReadAnswers text before (Surveyed.Counted counted) store
+pub accepts : {text before : List ℕ} {d : Draft} {i : ℕ} (b : Between text before d i) → read_of text ≡ read b.I
+    → ReadAnswers text before (Ok d.counts) d.store.now
 unfolding survey_of
-accepts {store = store} b e =
+accepts {d = d} b e =
     let I = b.I in
+    let store = d.store.now in
     let stored : Stored store I = record { clauses = b.rows.clauses; laid = b.rows.laid; within = b.sound.within } in
     record {
       answer = rw (e, survey_of) (ap Surveyed.Counted b.counts_to);
@@ -109,3 +107,8 @@ accepts {store = store} b e =
       beyond = b.lent.beyond;
       long = b.lent.long;
     }
+
+-- the lent store is as the draft leaves it
+pub given_back : {text before store now : List ℕ} {r : Result Instance Stage} → store ≡ now → ReadAnswers text before r now
+    → ReadAnswers text before r store
+given_back e a = rw e a

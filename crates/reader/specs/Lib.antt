@@ -7,6 +7,6 @@ pub mod Quoted
 pub mod Examples
 pub mod Spans
 pub mod Said
-pub mod Keeping
+pub mod Drafts
 pub mod Promise
 pub mod Theorems

@@ -1,55 +1,44 @@
--- What the code's own enums say: each case in terms of the definitions.
-use Rattle.std.specs.Prelude.{ℕ, true, false, ◌||◌, List, ◌≡◌, eqb, leb, ltb, length}
-use Rattle.std.proofs.Math.Option.{Option, some, none}
-use Rattle.instance.specs.Limits.{most_variables, most_literals, most_weight}
-use Rattle.instance.specs.Clause.{Literal, Weight, hard, soft, Clause, variable_of, total_of}
-use Rattle.instance.specs.Store.{literal_of, weight_of}
+-- What the code says of a token: each answer in terms of the definitions.
+use Rattle.std.specs.Prelude.{ℕ, true, false, ◌||◌, List, ◌≡◌, eqb, leb, ltb, length, Option, Some, None, Result, Ok, Err}
+use Rattle.std.proofs.Math.Option.{some, none}
+use Rattle.std.proofs.Math.Option as math
+use Rattle.instance.specs.Limits.{most_weight}
+use Rattle.instance.specs.Clause.{hard, soft, Clause, total_of}
+use Rattle.instance.specs.Clause as clause
+use Rattle.instance.specs.Faults.{numbered}
+use Rattle.instance.specs.Store.{literal_of}
+use Rattle.instance.specs.Weights.{meant}
+use Rattle.instance.specs.declared.faults.Fault.{Fault}
+use Rattle.instance.specs.declared.faults.Fault.TheVariants.{WrongToken}
+use Rattle.instance.specs.declared.weights.Weight.{Weight}
+use Rattle.instance.specs.declared.weights.Weight.TheVariants.{Hard, Soft}
 use Rattle.reader.specs.Numbers.{spelled, decimal}
 use Rattle.reader.specs.Words.{First, weighs, bad_first, first_word, Later, ends, holds, bad_later}
-use Rattle.reader.specs.declared.numbers.Number.{Number}
-use Rattle.reader.specs.declared.words.Spelled.{Spelled}
-use Rattle.reader.specs.declared.words.Opening.{Opening}
-use Rattle.reader.specs.declared.words.Word.{Word}
 
--- a token as a number of at most a limit
-unfoldable pub number_of : ℕ → List ℕ → Number
+-- a token as a number, or none where it is over a limit
+unfoldable pub number_of : ℕ → List ℕ → Result (Option ℕ) Fault
 number_of limit t =
     elim (spelled t) [
-      | false ↦ Number.Misspelled
-      | true ↦ elim (leb (decimal t) limit) [ true ↦ Number.Value (decimal t) | false ↦ Number.Over ]
+      | false ↦ Err WrongToken
+      | true ↦ elim (leb (decimal t) limit) [ true ↦ Ok (Some (decimal t)) | false ↦ Ok None ]
     ]
 
 -- a weight's spelling, with 5 foreseen
-unfoldable pub spelled_as : Option Weight → Spelled
-spelled_as none = Spelled.Wrong
-spelled_as (some hard) = Spelled.Right (record { code = 0; out = false })
-spelled_as (some (soft w)) =
-    elim (eqb w 0 || ltb most_weight w) [
-      | true ↦ Spelled.Right (record { code = 0; out = true })
-      | false ↦ Spelled.Right (record { code = w; out = false })
-    ]
+unfoldable pub spelled_as : math.Option clause.Weight → Result (Option Weight) Fault
+spelled_as none = Err WrongToken
+spelled_as (some hard) = Ok (Some Hard)
+spelled_as (some (soft w)) = elim (eqb w 0 || ltb most_weight w) [ true ↦ Ok None | false ↦ Ok (Some (Soft w)) ]
 
-abbrev pub opening_says : Opening → First
-opening_says (Opening.Weight code) = weighs (weight_of code)
-opening_says (Opening.Fault n) = bad_first n
+abbrev pub opening_says : Result Weight Fault → First
+opening_says (Ok w) = weighs (meant w)
+opening_says (Err f) = bad_first (numbered f)
 
 -- what the code says of a clause's first token, after clauses of this number and total
-abbrev pub FirstSaid : List ℕ → ℕ → ℕ → Opening → Type 0
+abbrev pub FirstSaid : List ℕ → ℕ → ℕ → Result Weight Fault → Type 0
 FirstSaid t clauses total r =
     (cs : List Clause) → clauses ≡ length cs → total ≡ total_of cs → opening_says r ≡ first_word cs t
 
--- a later token that is not the end
-unfoldable pub literal_says : ℕ → Option Literal → Later
-literal_says written o =
-    elim o [
-      | none ↦ bad_later 2
-      | some l ↦ elim (ltb most_variables (variable_of l)) [
-        | true ↦ bad_later 7
-        | false ↦ elim (leb most_literals written) [ true ↦ bad_later 8 | false ↦ holds l ]
-      ]
-    ]
-
-abbrev pub word_says : Word → Later
-word_says Word.End = ends
-word_says (Word.Literal code) = holds (literal_of code)
-word_says (Word.Fault n) = bad_later n
+abbrev pub word_says : Result (Option ℕ) Fault → Later
+word_says (Ok None) = ends
+word_says (Ok (Some code)) = holds (literal_of code)
+word_says (Err f) = bad_later (numbered f)

@@ -1,8 +1,7 @@
 #![tactic(auto)]
 
 // Reading an instance text: its tokens, their numbers, what each says where it stands, and the store that it is laid into.
-mod counting;
-mod keeping;
+mod drafts;
 mod numbers;
 mod reading;
 mod surveying;

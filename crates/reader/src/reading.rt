@@ -1,74 +1,48 @@
-ghost use Rattle.std.specs.Prelude.{◌≡◌, ◌≤◌, length};
+ghost use Rattle.std.specs.Prelude.{◌≤◌, length};
 ghost use Rattle.instance.specs.Memory.{store_size};
-ghost use Rattle.instance.specs.Refusals.{staged};
 ghost use Rattle.reader.specs.Promise.{ReadAnswers};
 
-use crate::counting::{nothing, with_clause, with_literal};
-use crate::keeping::{begin, keep};
-use crate::tokens::{past_blanks, past_line, past_token};
-use crate::words::{Opening, Word, first_word, later_word};
-use instance::{Surveyed, refusal};
+use crate::drafts::Draft;
+use crate::tokens::{next_line, next_token};
+use crate::words::{first_word, later_word};
+use instance::{Fault, Instance, Stage};
 
-fn refused(number: u64, place: usize) -> Surveyed
-    ensures { result ≡ Surveyed.Refused (staged number place) }
-{
-    Surveyed::Refused(refusal(number, place))
-}
-
-// Reads a text into the store, line by line and token by token, up to the first token at fault.
-pub fn read(text: &[u8], store: &mut [u64]) -> Surveyed
+// Reads a text into the store, line by line and token by token, up to the first token at fault. The token loop lies inside the line
+// loop, and both are left by the label, since a refusal leaves them at once with its place.
+pub fn read(text: &[u8], store: &mut [u64]) -> Result<Instance, Stage>
     requires { store_size ≤ length store.old }
     ensures { ReadAnswers text.now store.old result store.new }
 {
-    let mut counted = nothing();
-    // literals of all clauses in the store
-    let mut kept: usize = 0;
-    let mut i: usize = 0;
+    let mut draft = Draft::new(store);
+    let mut i = 0;
     'text: loop {
-        let at = past_blanks(text, i);
-        let end = past_token(text, at);
-        if end <= at {
-            if text.len() <= at {
-                break 'text Surveyed::Counted(counted);
-            }
-            i = at + 1;
-            continue 'text;
+        let first = next_line(text, i);
+        if first.bytes.is_empty() {
+            break 'text Ok(draft.counts);
         }
-        if text[at] == b'c' {
-            i = past_line(text, end);
-            continue 'text;
-        }
-        let weight = match first_word(&text[at..end], counted.clauses, counted.total) {
-            Opening::Weight(code) => code,
-            Opening::Fault(number) => break 'text refused(number, at),
+        let weight = match first_word(first.bytes, draft.counts.clauses, draft.counts.total) {
+            Ok(weight) => weight,
+            Err(fault) => break 'text Err(fault.at(first.place)),
         };
-        let clause = counted.clauses;
-        let start = kept;
-        begin(store, clause, weight);
-        i = end;
-        loop {
-            let at = past_blanks(text, i);
-            let end = past_token(text, at);
-            if end <= at {
-                break 'text refused(3, at);
+        draft.begin(weight);
+        i = first.end();
+        'clause: loop {
+            let token = next_token(text, i);
+            if token.bytes.is_empty() {
+                break 'text Err(Fault::ClauseWithoutEnd.at(token.place));
             }
-            match later_word(&text[at..end], counted.written) {
-                Word::Fault(number) => break 'text refused(number, at),
-                Word::Literal(code) => {
-                    counted = with_literal(counted, code);
-                    kept = keep(store, clause, start, kept, code);
-                    i = end;
-                }
-                Word::End => {
-                    i = past_blanks(text, end);
-                    if i < past_token(text, i) {
-                        break 'text refused(2, i);
-                    }
-                    store[clause] = kept as u64;
-                    counted = with_clause(counted, weight);
-                    continue 'text;
-                }
+            i = token.end();
+            match later_word(token.bytes, draft.counts.written) {
+                Ok(Some(code)) => draft.keep(code),
+                Ok(None) => break 'clause,
+                Err(fault) => break 'text Err(fault.at(token.place)),
             }
         }
+        let after = next_token(text, i);
+        if !after.bytes.is_empty() {
+            break 'text Err(Fault::WrongToken.at(after.place));
+        }
+        draft.close();
+        i = after.place;
     }
 }

@@ -1,118 +1,52 @@
-ghost use Rattle.std.specs.Prelude.{◌≡◌, ◌+◌, ◌*◌, ◌<◌, ◌≤◌, length};
+ghost use Rattle.std.specs.Prelude.{◌≡◌, ◌<◌, ◌≤◌, length};
 ghost use Rattle.instance.specs.Limits.{most_weight};
-ghost use Rattle.instance.specs.Store.{literal_of};
-ghost use Rattle.reader.specs.Words.{alone, weight_spelled, signed, later_word};
-ghost use Rattle.reader.specs.Said.{spelled_as, FirstSaid, literal_says, word_says};
+ghost use Rattle.reader.specs.Words.{weight_spelled, later_word};
+ghost use Rattle.reader.specs.Said.{spelled_as, FirstSaid, word_says};
 
-use crate::numbers::{Number, read_number};
-use instance::Instance;
+use crate::numbers::read_number;
+use instance::{Fault, Instance, Weight};
 
-// A weight that is rightly spelled: its code in the store (0 is hard), and whether it is out of the limits.
-#[derive(Drop)]
-pub struct Weight {
-    pub code: u64,
-    pub out: bool,
-}
-
-#[derive(Drop)]
-pub enum Spelled {
-    Right(Weight),
-    Wrong,
-}
-
-// What a clause's first token says: its weight's code, or a refusal's number.
-#[derive(Drop)]
-pub enum Opening {
-    Weight(u64),
-    Fault(u64),
-}
-
-// What a later token says: the clause's end, a literal's code in the store, or a refusal's number.
-#[derive(Drop)]
-pub enum Word {
-    End,
-    Literal(u64),
-    Fault(u64),
-}
-
-// Whether a token is this one byte.
-fn is_alone(token: &[u8], byte: u8) -> bool
-    ensures { result ≡ alone byte token.now }
-{
-    if token.len() == 1 {
-        return token[0] == byte;
-    }
-    false
-}
-
-fn weight_spelled(token: &[u8]) -> Spelled
+// A clause's weight, or none where it is out of its limits.
+fn weight_spelled(token: &[u8]) -> Result<Option<Weight>, Fault>
     ensures { result ≡ spelled_as (weight_spelled token.now) }
 {
-    if is_alone(token, b'h') {
-        return Spelled::Right(Weight {
-            code: 0,
-            out: false,
-        });
-    }
-    if is_alone(token, b'0') {
-        return Spelled::Right(Weight { code: 0, out: true });
-    }
-    match read_number(token, Instance::WEIGHT) {
-        Number::Value(w) => Spelled::Right(Weight {
-            code: w,
-            out: false,
-        }),
-        Number::Over => Spelled::Right(Weight { code: 0, out: true }),
-        Number::Misspelled => Spelled::Wrong,
+    match token {
+        b"h" => Ok(Some(Weight::Hard)),
+        b"0" => Ok(None),
+        digits => Ok(read_number(digits, Instance::WEIGHT)?.map(Weight::Soft)),
     }
 }
 
-// Spelling, clause count, weight, total: in this order.
-pub fn first_word(token: &[u8], clauses: usize, total: u64) -> Opening
+// A clause's first token. Spelling, clause count, weight, total: in this order.
+pub fn first_word(token: &[u8], clauses: usize, total: u64) -> Result<Weight, Fault>
     requires { total ≤ most_weight }
     ensures { FirstSaid token.now clauses total result }
 {
-    let Spelled::Right(weight) = weight_spelled(token) else {
-        return Opening::Fault(2);
-    };
-    if Instance::CLAUSES <= clauses {
-        return Opening::Fault(4);
+    let spelled = weight_spelled(token)?;
+    if clauses >= Instance::CLAUSES {
+        return Err(Fault::TooManyClauses);
     }
-    if weight.out {
-        return Opening::Fault(5);
+    let weight = spelled.ok_or(Fault::WeightOutOfRange)?;
+    if total + u64::from(weight) > Instance::WEIGHT {
+        return Err(Fault::TotalTooLarge);
     }
-    if Instance::WEIGHT < total + weight.code {
-        return Opening::Fault(6);
-    }
-    Opening::Weight(weight.code)
+    Ok(weight)
 }
 
-// A literal's variable, and 1 for the opposite. Spelling, variable, literal count: in this order.
-fn literal(digits: &[u8], sign: u64, written: usize) -> Word
-    requires { sign < 2 }
-    ensures { word_says result ≡ literal_says written (signed (λ x. literal_of (2 * x + sign)) digits.now) }
-{
-    match read_number(digits, Instance::VARIABLES) {
-        Number::Misspelled => Word::Fault(2),
-        Number::Over => Word::Fault(7),
-        Number::Value(x) => {
-            if Instance::LITERALS <= written {
-                return Word::Fault(8);
-            }
-            Word::Literal(2 * x + sign)
-        }
-    }
-}
-
-pub fn later_word(token: &[u8], written: usize) -> Word
+// A later token of a clause: a literal's code in the store, or none at the clause's end. Spelling, variable, literal count: in
+// this order.
+pub fn later_word(token: &[u8], written: usize) -> Result<Option<u64>, Fault>
     requires { 0 < length token.now }
     ensures { word_says result ≡ later_word written token.now }
 {
-    if is_alone(token, b'0') {
-        return Word::End;
+    let (digits, is_opposite) = match token {
+        b"0" => return Ok(None),
+        [b'-', digits @ ..] => (digits, true),
+        digits => (digits, false),
+    };
+    let variable = read_number(digits, Instance::VARIABLES)?.ok_or(Fault::VariableTooLarge)?;
+    if written >= Instance::LITERALS {
+        return Err(Fault::TooManyLiterals);
     }
-    if token[0] == b'-' {
-        return literal(&token[1..], 1, written);
-    }
-    literal(token, 0, written)
+    Ok(Some(2 * variable + u64::from(is_opposite)))
 }

@@ -1,4 +1,3 @@
-pub mod Choices
 pub mod Literals
 pub mod Tallies
 pub mod Values

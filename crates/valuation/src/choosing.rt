@@ -1,74 +1,70 @@
-ghost use Rattle.std.specs.Prelude.{◌≡◌, ◌≤◌, length, drop};
+ghost use Rattle.std.specs.Prelude.{◌≡◌, ◌≤◌, length};
+ghost use Rattle.std.specs.Result.{result_unwrap_or};
 ghost use Rattle.instance.specs.Memory.{store_size};
-ghost use Rattle.valuation.specs.Better.{beats, chosen, better_of, BetterAnswers};
+ghost use Rattle.instance.specs.declared.answers.Valued.{Valued};
+ghost use Rattle.valuation.specs.Better.{beats, chosen, better_of, Handed, BetterAnswers};
+ghost use Rattle.valuation.specs.declared.choosing.Choice.TheVariants.{Neither};
 
 use crate::valuing::valued;
-use instance::{STORE, Surveyed, Valued, clear};
+use instance::{Held, Stage, Worth, over_store};
 use reader::read;
 
-// Which of the two lent assignments is handed back; neither stands for the empty part at the start of the first.
-#[derive(Clone, Copy)]
+// Which of the two lent assignments is handed back; neither stands for the empty part at the start of the first. An enum with all
+// three, since the definition `better_of` answers in it.
+#[derive(Clone, Copy, Debug, PartialEq, Eq)]
 pub enum Choice {
     First,
     Second,
     Neither,
 }
 
-// Whether the second, with its first broken hard clause g and its weight w, comes before the first, with f and v.
-fn comes_before(g: usize, w: u64, f: usize, v: u64) -> bool
-    ensures { result ≡ beats g w f v }
-{
-    if g != 0 {
-        return false;
+impl Choice {
+    // The part of memory that it names.
+    fn part<'a>(self, first: &'a [u8], second: &'a [u8]) -> &'a [u8]
+        ensures { Handed self first.entry second.entry result }
+    {
+        match self {
+            Self::First => first,
+            Self::Second => second,
+            Self::Neither => &first[..0],
+        }
     }
-    if f != 0 {
-        return true;
-    }
-    w < v
 }
 
-fn choose(first: Valued, second: Valued) -> Choice
-    ensures { result ≡ chosen first second }
+// Whether a worth comes before another: hard clauses first, then the weight. It is no `Ord`: two that break hard clauses tie,
+// whatever they weigh.
+#[tactic(auto, unfolding(crate::specs::Better::beats))]
+fn comes_before(this: Worth, other: Worth) -> bool
+    ensures { result ≡ beats this.first_broken this.falsified other.first_broken other.falsified }
 {
-    let Valued::Worth(f, v) = first else {
-        return Choice::Neither;
-    };
-    let Valued::Worth(g, w) = second else {
-        return Choice::Neither;
-    };
-    if comes_before(g, w, f, v) {
-        return Choice::Second;
+    this.first_broken == 0 && (other.first_broken != 0 || this.falsified < other.falsified)
+}
+
+#[tactic(auto, unfolding(crate::specs::Better::chosen))]
+fn cheaper(first: Worth, second: Worth) -> Choice
+    ensures { result ≡ chosen (Valued.Worth first.first_broken first.falsified) (Valued.Worth second.first_broken second.falsified) }
+{
+    if comes_before(second, first) {
+        Choice::Second
+    } else {
+        Choice::First
     }
-    Choice::First
 }
 
 // The choice, with the instance left in the store.
-fn choice_left(text: &[u8], first: &[u8], second: &[u8], store: &mut [u64]) -> Choice
+fn choice_left(text: &[u8], first: &[u8], second: &[u8], store: &mut [u64]) -> Result<Choice, Stage>
     requires { store_size ≤ length store.old }
-    ensures value { result ≡ better_of text.now first.now second.now }
-    ensures beyond_kept { drop store_size store.new ≡ drop store_size store.old }
-    ensures length_kept { length store.new ≡ length store.old }
+    ensures { result_unwrap_or result Neither ≡ better_of text.now first.now second.now }
 {
-    let Surveyed::Counted(i) = read(text, store) else {
-        return Choice::Neither;
-    };
-    let a = valued(store, i.variables, i.clauses, first);
-    let b = valued(store, i.variables, i.clauses, second);
-    choose(a, b)
+    let counts = read(text, store)?;
+    let held = Held { store, counts };
+    Ok(cheaper(valued(&held, first)?, valued(&held, second)?))
 }
 
 // Better of two: hands back the cheaper of the two lent assignments, as that very part.
 pub fn better<'a>(text: &[u8], first: &'a [u8], second: &'a [u8], store: &mut [u64]) -> &'a [u8]
     ensures { BetterAnswers text.now first.entry second.entry store.old result store.new }
 {
-    if store.len() < STORE {
-        return &first[..0];
-    }
-    let c = choice_left(text, first, second, store);
-    clear(store, STORE);
-    match c {
-        Choice::First => first,
-        Choice::Second => second,
-        Choice::Neither => &first[..0],
-    }
+    let choice = over_store(store, |store| choice_left(text, first, second, store));
+    choice.unwrap_or(Choice::Neither).part(first, second)
 }

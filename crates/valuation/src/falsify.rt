@@ -1,43 +1,24 @@
-ghost use Rattle.std.specs.Prelude.{◌≡◌, map, ◌+◌, ◌-◌, ◌<◌, ◌≤◌, ◌/◌, length};
-ghost use Rattle.instance.specs.Within.{Every};
+ghost use Rattle.std.specs.Prelude.{◌≡◌, ◌<◌, ◌≤◌, ◌/◌, length};
 ghost use Rattle.instance.specs.Meaning.{assigned, holds, falsified};
-ghost use Rattle.instance.specs.Store.{literal_of, literals_in, Laid};
+ghost use Rattle.instance.specs.Store.{literal_of, literals_in};
 
-use instance::{LITERALS_AT, start_of};
+use instance::Held;
 
 // Whether an assignment makes the literal of this code true.
+#[tactic(auto, using(crate::proofs::Literals::even_code, crate::proofs::Literals::odd_code))]
 fn is_true(bytes: &[u8], code: u64) -> bool
     requires { (2 ≤ code) × (code / 2 ≤ length bytes.now) }
     ensures { result ≡ holds (assigned bytes.now) (literal_of code) }
 {
-    let value = bytes[(code / 2 - 1) as usize];
-    if code % 2 == 0 {
-        return value == 1;
-    }
-    value != 1
+    let value = bytes[(code / 2 - 1) as usize] == 1;
+    if code % 2 == 0 { value } else { !value }
 }
 
-// Whether it makes all literals of these codes false.
-fn all_false(codes: &[u64], bytes: &[u8]) -> bool
-    requires { Every (λ c. (2 ≤ c) × (c / 2 ≤ length bytes.now)) codes.now }
-    ensures { result ≡ falsified (assigned bytes.now) (map literal_of codes.now) }
+// Whether an assignment falsifies the clause of number k + 1: it makes none of its literals true.
+pub fn falsifies(held: &Held, k: usize, bytes: &[u8]) -> bool
+    requires clause { k < held.now.counts.clauses }
+    requires size { length bytes.now ≡ held.now.counts.variables }
+    ensures { result ≡ falsified (assigned bytes.now) (literals_in held.now.store.now k) }
 {
-    let mut i: usize = 0;
-    while i < codes.len() {
-        if is_true(bytes, codes[i]) {
-            return false;
-        }
-        i += 1;
-    }
-    true
-}
-
-// Whether an assignment falsifies the clause of number k + 1.
-pub fn falsifies(store: &[u64], clauses: usize, k: usize, bytes: &[u8]) -> bool
-    requires { (k < clauses) × Laid store.now (length bytes.now) clauses }
-    ensures { result ≡ falsified (assigned bytes.now) (literals_in store.now k) }
-{
-    let from = LITERALS_AT + start_of(store, k);
-    let to = LITERALS_AT + store[k] as usize;
-    all_false(&store[from..to], bytes)
+    held.codes_of(k).iter().all(|&c| !is_true(bytes, c))
 }

@@ -2,11 +2,12 @@ ghost use Rattle.derivation.specs.Check.{CheckAnswers};
 ghost use Rattle.derivation.specs.Demands.{Meant};
 ghost use Rattle.verdict.specs.Workspaces.{desk};
 
-use crate::desk::{suffices, wipe};
 use crate::judging::answer;
-use instance::{CELLS, Checked, FRAMES, LOG, STORE, refusal};
+use checker::Desk;
+use instance::{CELLS, Checked, FRAMES, Fault, LOG, STORE, clear};
 
-// Check: whether a derivation shows that the assignment is cheapest, or that no assignment meets the hard clauses.
+// Check: whether a derivation shows that the assignment is cheapest, or that no assignment meets the hard clauses. Inputs and
+// workspaces are lent one by one, as whoever asks holds them.
 pub fn check(
     text: &[u8],
     bytes: &[u8],
@@ -21,18 +22,19 @@ pub fn check(
         (desk store.new cells.new log.new frames.new) }
     ensures meant { Meant text.now bytes.now result }
 {
-    if suffices(store.len(), cells.len(), log.len(), frames.len()) {
-        let r = answer(
-            text,
-            bytes,
-            proof,
-            &mut store[..STORE],
-            &mut cells[..CELLS],
-            &mut log[..LOG],
-            &mut frames[..FRAMES],
-        );
-        wipe(store, cells, log, frames);
-        return r;
+    // Four workspaces, each of its own size: `over_store` has the one that the other questions share.
+    if store.len() < STORE || cells.len() < CELLS || log.len() < LOG || frames.len() < FRAMES {
+        return Checked::Refused(Fault::MemoryTooSmall.at(0));
     }
-    Checked::Refused(refusal(1, 0))
+    let mut desk = Desk {
+        cells: &mut cells[..CELLS],
+        log: &mut log[..LOG],
+        frames: &mut frames[..FRAMES],
+    };
+    let verdict = answer(text, bytes, proof, &mut store[..STORE], &mut desk);
+    clear(store, STORE);
+    clear(cells, CELLS);
+    clear(log, LOG);
+    clear(frames, FRAMES);
+    Checked::from(verdict)
 }

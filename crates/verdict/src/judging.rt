@@ -1,109 +1,50 @@
 ghost use Rattle.std.specs.Prelude.{List, ◌≡◌, ℕ, ◌≤◌, length};
+ghost use Rattle.instance.specs.Answers.{checked};
 ghost use Rattle.instance.specs.Clause.{Problem};
 ghost use Rattle.instance.specs.Memory.{store_size};
 ghost use Rattle.instance.specs.Store.{Given};
-ghost use Rattle.instance.specs.declared.answers.Claim.TheVariants.{Minimum};
-ghost use Rattle.reader.specs.Reading.{read as reads, read_of};
-ghost use Rattle.derivation.specs.Check.{claimed, check_of};
-ghost use Rattle.verdict.specs.Workspaces.{Ample};
+ghost use Rattle.derivation.specs.Check.{followed, claimed, check_of};
+ghost use Rattle.verdict.specs.Claims.{before};
 
-use crate::claims::{Claimed, claim_of};
-use checker::after_claim;
-use instance::{Checked, Claim, Instance, Surveyed, Valued, refusal};
+use crate::claims::claim_of;
+use checker::{Desk, after_claim};
+use instance::{Claim, Fault, Held, Stage};
 use reader::read;
 use valuation::valued;
 
-// The claim that the minimum is m: the assignment's own refusals, then the records.
-fn minimum(
-    store: &[u64],
-    cells: &mut [u64],
-    log: &mut [u64],
-    frames: &mut [u64],
-    i: Instance,
-    bytes: &[u8],
-    proof: &[u8],
-    m: u64,
-) -> Checked
-    requires given { (I : Problem) × Given store.now i.variables i.clauses I }
-    requires ample { Ample cells.old log.old frames.old }
-    ensures { (I : Problem) → Given store.now i.variables i.clauses I
-        → result ≡ claimed I bytes.now proof.now (Minimum m) }
+// What a claim asks of the assignment. Under `Infeasible` the assignment is not read.
+fn check_assignment(held: &Held, bytes: &[u8], claim: Claim) -> Result<(), Stage>
+    ensures { (proof : List ℕ) (I : Problem) → Given held.now.store.now held.now.counts.variables held.now.counts.clauses I
+        → before result (followed I proof claim) ≡ claimed I bytes.now proof claim }
 {
-    let n = i.variables;
-    let k = i.clauses;
-    match valued(store, n, k, bytes) {
-        Valued::Refused(s) => Checked::Refused(s),
-        Valued::Worth(first, weight) => {
-            if first != 0 {
-                return Checked::Refused(refusal(12, first));
-            }
-            if weight != m {
-                return Checked::Refused(refusal(13, 0));
-            }
-            after_claim(
-                store,
-                cells,
-                log,
-                frames,
-                proof,
-                9,
-                n as usize,
-                k,
-                Claim::Minimum(m),
-            )
-        }
-    }
-}
-
-// The claim of a derivation, for the instance in the store.
-fn judged(
-    store: &[u64],
-    cells: &mut [u64],
-    log: &mut [u64],
-    frames: &mut [u64],
-    i: Instance,
-    bytes: &[u8],
-    proof: &[u8],
-) -> Checked
-    requires given { (I : Problem) × Given store.now i.variables i.clauses I }
-    requires ample { Ample cells.old log.old frames.old }
-    ensures { (text : List ℕ) (I : Problem) → read_of text ≡ reads I → Given store.now i.variables i.clauses I
-        → result ≡ check_of text bytes.now proof.now }
-{
-    let Claimed::Whole(claim, from) = claim_of(proof) else {
-        return Checked::Refused(refusal(11, 0));
+    let Claim::Minimum(m) = claim else {
+        return Ok(());
     };
-    match claim {
-        Claim::Minimum(m) => minimum(store, cells, log, frames, i, bytes, proof, m),
-        Claim::Infeasible => after_claim(
-            store,
-            cells,
-            log,
-            frames,
-            proof,
-            from,
-            i.variables as usize,
-            i.clauses,
-            claim,
-        ),
+    let worth = valued(held, bytes)?;
+    if worth.first_broken != 0 {
+        return Err(Fault::HardClauseBroken.at(worth.first_broken));
     }
+    if worth.falsified != m {
+        return Err(Fault::OtherWeight.at(0));
+    }
+    Ok(())
 }
 
-// The answer, with the workspaces left as the work left them.
+// The claim that is shown and the number of records, with the workspaces left as the work left them.
 pub fn answer(
     text: &[u8],
     bytes: &[u8],
     proof: &[u8],
     store: &mut [u64],
-    cells: &mut [u64],
-    log: &mut [u64],
-    frames: &mut [u64],
-) -> Checked
-    requires { (store_size ≤ length store.old) × Ample cells.old log.old frames.old }
-    ensures { result ≡ check_of text.now bytes.now proof.now }
+    desk: &mut Desk,
+) -> Result<(Claim, usize), Stage>
+    requires { store_size ≤ length store.old }
+    ensures { checked result ≡ check_of text.now bytes.now proof.now }
 {
-    match read(text, store) {
-        Surveyed::Counted(i) => judged(store, cells, log, frames, i, bytes, proof),
-        Surveyed::Refused(s) => Checked::Refused(s),
-    }
+    let counts = read(text, store)?;
+    let held = Held { store, counts };
+    let (claim, from) = claim_of(proof).ok_or(Fault::NoClaim.at(0))?;
+    check_assignment(&held, bytes, claim)?;
+    let records = after_claim(&held, desk, proof, from, claim)?;
+    Ok((claim, records))
 }

@@ -3,7 +3,6 @@
 // Check: the text, the claim, the assignment, and then the records of a derivation.
 mod checking;
 mod claims;
-mod desk;
 mod judging;
 
 pub use checking::check;

@@ -7,13 +7,11 @@ use Rattle.std.proofs.Common.{ap, sym, ◌∙◌, arith, length-take}
 use Rattle.std.proofs.lemmas.List.{length-map}
 use Rattle.instance.specs.Clause.{Literal, Weight, soft, Body, clause, Clause, Problem, clause_at, tautology}
 use Rattle.instance.specs.Store.{weights_at, weight_of, start_in, end_in, literals_in, clause_in, Stored}
+use Rattle.instance.specs.Theorems.Choices.{never}
 use Rattle.calculus.specs.Branch.{Branch, put, several, spent, disjuncts, branches, unless, extend_by, extend}
 use Rattle.calculus.specs.Derivation.{Step, stop, go, offered, extending}
 use Rattle.branch.specs.Shows.{is_some, extendable, open_in, Left, Remain}
 use Rattle.branch.specs.Theorems.Stored.{clause_stored}
-
-never : {A : Type 0} → ◌≡◌ {A = Bool} true false → A
-never e = absurd (let z : ◌≡◌ {A = ℕ} 0 1 = cc in omega arith)
 
 -- ---- one clause
 -- a clause that can't be extended

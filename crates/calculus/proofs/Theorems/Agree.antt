@@ -1,7 +1,6 @@
 -- "An assignment is n bytes": only the variables 1 to n count, for the bytes of an assignment and for those that Write finds.
-use Rattle.std.specs.Prelude.{ℕ, ◌≤◌, ◌≡◌}
+use Rattle.std.specs.Prelude.{ℕ, ◌≤◌, ◌≡◌, List, [], ◌∷◌}
 use Rattle.std.proofs.Math.Bool.{not}
-use mathlib.Core.List.{List, [], ◌∷◌}
 use Rattle.std.proofs.Math.Path.{refl, ap}
 use Rattle.instance.specs.Clause.{Literal, pos, neg, Weight, hard, soft, Body, clause, Clause, variable_of}
 use Rattle.instance.specs.Meaning.{Assignment, holds, falsified, broken, fine, feasible, cost}

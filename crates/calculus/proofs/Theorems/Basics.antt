@@ -1,8 +1,7 @@
 -- Small facts about tests and lists.
-use Prim.Native.Nat.{ℕ, zero, suc, ◌≤◌}
-use Rattle.std.specs.Prelude.{Bool, true, false, ◌||◌, ◌≡◌, length}
+use Rattle.std.specs.Prelude.{Bool, true, false, ◌||◌, ◌≡◌, length, ℕ, zero, suc, ◌≤◌, List, [], ◌∷◌, ◌++◌}
 use Rattle.std.proofs.Common.{true≢false, sym, ◌∙◌, arith, leb-true, leb-false, ltb-true, ltb-false}
-use mathlib.Core.List.{List, [], ◌∷◌, ◌++◌, Memᴰ as Among}
+use mathlib.Core.List.{Memᴰ as Among}
 use Rattle.std.proofs.Math.Option.{some, some-injective, none-ne-some}
 use Rattle.std.proofs.Math.Path.{refl, subst}
 use Rattle.instance.specs.Clause.{Clause, clause_at}

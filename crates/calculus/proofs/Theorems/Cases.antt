@@ -1,7 +1,7 @@
 -- What a contradiction and an extension do, a case for each: the tests of their definitions are gone through here and nowhere
 -- else.
-use Rattle.std.specs.Prelude.{ℕ, ◌+◌, ◌<◌, ◌≤◌, min, Bool, true, false, not, ◌≡◌, refl, ltb}
-use mathlib.Core.List.{List, [], ◌∷◌, map, Memᴰ as Among}
+use Rattle.std.specs.Prelude.{ℕ, ◌+◌, ◌<◌, ◌≤◌, min, Bool, true, false, not, ◌≡◌, refl, ltb, List, [], ◌∷◌, map}
+use mathlib.Core.List.{Memᴰ as Among}
 use Rattle.std.proofs.Math.Option.{Option, some, none, some-injective, none-ne-some, some-ne-none}
 use Rattle.std.proofs.Common.{ap, subst, ◌∙◌, arith, ltb-true}
 use Rattle.instance.specs.Clause.{Literal, pos, neg, Weight, soft, Body, clause, Clause, variable_of, opposite, tautology}

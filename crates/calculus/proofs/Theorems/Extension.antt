@@ -1,8 +1,6 @@
 -- An extension is fair.
-use Prim.Native.Nat.{ℕ, ◌+◌, min}
-use Rattle.std.specs.Prelude.{Bool, not, ◌&&◌, ◌≡◌, refl}
+use Rattle.std.specs.Prelude.{Bool, not, ◌&&◌, ◌≡◌, refl, ℕ, ◌+◌, min, List, [], ◌∷◌, map}
 use Rattle.std.proofs.Math.Bool.{true, false, and-true}
-use mathlib.Core.List.{List, [], ◌∷◌, map}
 use Rattle.std.proofs.Math.Option.{some}
 use Rattle.std.proofs.Common.{arith}
 use Rattle.instance.specs.Clause.{Literal, Weight, soft, Clause, clause_at}

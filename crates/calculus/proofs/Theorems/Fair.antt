@@ -1,8 +1,6 @@
 -- The one form of lemma that every kind of record meets: the branch is worth as much as the least of the branches that come in
 -- its place, to every assignment.
-use Prim.Native.Nat.{ℕ, zero, suc}
-use Rattle.std.specs.Prelude.{true, false, ◌≡◌}
-use mathlib.Core.List.{List, [], ◌∷◌}
+use Rattle.std.specs.Prelude.{true, false, ◌≡◌, ℕ, zero, suc, List, [], ◌∷◌}
 use Rattle.std.proofs.Math.Option.{some, some-injective}
 use Rattle.std.proofs.Math.Path.{refl}
 use Rattle.instance.specs.Clause.{Literal, Weight, hard, soft, Body, clause, Clause, clause_at}

@@ -1,12 +1,10 @@
 -- The clauses that are not spent: how many there are, and how many leaves their extensions can have. At the root that is at
 -- most P.
-use Prim.Native.Nat.{ℕ, suc, ◌+◌, ◌*◌, ◌≤◌}
-use Rattle.std.specs.Prelude.{Bool, true, false, not, List, [], ◌∷◌, map, ◌≡◌}
+use Rattle.std.specs.Prelude.{Bool, true, false, not, List, [], ◌∷◌, map, ◌≡◌, ℕ, suc, ◌+◌, ◌*◌, ◌≤◌}
 use Rattle.std.proofs.Math.Option.{some}
 use Rattle.std.proofs.Math.Path.{refl, ap}
-use Rattle.std.proofs.Common.{sym, ◌∙◌, zero-add, one-mul, mul-le-mul_left}
+use Rattle.std.proofs.Common.{sym, ◌∙◌, zero-add, one-mul, mul-le-mul_left, arith}
 use Rattle.std.proofs.Math.Nat.{add_left_comm, mul_left_comm, mul-le-mul_right, one-le-mul}
-use native.Mathlib.Omega.{arith}
 use Rattle.std.proofs.Math.ListN.{length}
 use Rattle.instance.specs.Clause.{Literal, Weight, soft, Body, clause, Clause, tautology, clause_at}
 use Rattle.calculus.specs.Bounds.{branching, count_of, product_of}

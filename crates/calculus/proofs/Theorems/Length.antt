@@ -1,11 +1,10 @@
 -- Demand 3 over records: with room for P * (3 * K + 4) + 6 bytes Write writes a derivation of a true claim, of at most
 -- P * (K + 2) - 1 records after the claim, that Check accepts.
-use Rattle.std.specs.Prelude.{ℕ, suc, ◌+◌, ◌-◌, ◌*◌, ◌<◌, ◌≤◌, ◌≡◌, length}
-use mathlib.Core.List.{List, [], ◌∷◌, ◌++◌, map}
+use Rattle.std.specs.Prelude.{ℕ, suc, ◌+◌, ◌-◌, ◌*◌, ◌<◌, ◌≤◌, ◌≡◌, length, List, [], ◌∷◌, ◌++◌, map}
+use Rattle.std.proofs.Common.{arith}
 use Rattle.std.proofs.Math.Option.{some}
 use Rattle.std.proofs.Math.Path.{refl, ap}
 use Rattle.std.proofs.Math.Nat.{mul-le-mul, mul-le-mul_left, mul-le-mul_right}
-use native.Mathlib.Omega.{arith}
 use Rattle.instance.specs.Clause.{soft, Clause, Problem, clause_at}
 use Rattle.instance.specs.Meaning.{Assignment}
 use Rattle.instance.specs.Within.{Every, Fits}

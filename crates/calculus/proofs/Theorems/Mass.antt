@@ -1,11 +1,10 @@
 -- No number on a branch passes the total soft weight: booked cost, unit weights and the weight not extended never grow together,
 -- and at the root they are the total.
-use Rattle.std.specs.Prelude.{ℕ, ◌+◌, ◌≤◌, ◌≡◌, refl}
-use mathlib.Core.List.{List, [], ◌∷◌, ◌++◌}
+use Rattle.std.specs.Prelude.{ℕ, ◌+◌, ◌≤◌, ◌≡◌, refl, List, [], ◌∷◌, ◌++◌}
+use Rattle.std.proofs.Common.{arith}
 use Rattle.std.proofs.Math.Option.{some}
 use Rattle.std.proofs.Math.Path.{ap}
 use Rattle.std.proofs.Math.Nat.{add_left_comm}
-use native.Mathlib.Omega.{arith}
 use Rattle.instance.specs.Clause.{Literal, pos, Weight, hard, soft, Body, clause, Clause, Problem, variable_of, clause_at, soft_of, total_of}
 use Rattle.instance.specs.Within.{Every, In, InBody, Fits}
 use Rattle.instance.specs.declared.answers.Claim.{Claim}

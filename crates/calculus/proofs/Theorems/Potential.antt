@@ -1,11 +1,10 @@
 -- No fewer than the contradictions still to come on a branch: its literals with weight, its marks while it is not dead, and its
 -- clauses that are not spent. At the root that is at most K.
-use Rattle.std.specs.Prelude.{ℕ, zero, suc, ◌+◌, ◌<◌, ◌≤◌, min, Bool, true, ◌≡◌, refl, length}
+use Rattle.std.specs.Prelude.{ℕ, zero, suc, ◌+◌, ◌<◌, ◌≤◌, min, Bool, true, ◌≡◌, refl, length, List, [], ◌∷◌, ◌++◌}
+use Rattle.std.proofs.Common.{arith}
 use Rattle.std.proofs.Math.Bool.{false, not}
-use mathlib.Core.List.{List, [], ◌∷◌, ◌++◌}
 use Rattle.std.proofs.Math.Option.{some}
 use Rattle.std.proofs.Math.Path.{ap, ap₂}
-use native.Mathlib.Omega.{arith}
 use Rattle.instance.specs.Clause.{Literal, pos, neg, Weight, hard, soft, Body, clause, Clause, variable_of, opposite, clause_at}
 use Rattle.instance.specs.Within.{Every, In, InBody}
 use Rattle.calculus.specs.Branch.{

@@ -1,14 +1,12 @@
 -- Booked cost plus falsified live weight: what fairness says of it, to an assignment that meets the hard clauses and marks.
-use Prim.Native.Nat.{ℕ, suc, ◌+◌, ◌<◌, ◌≤◌}
-use Rattle.std.specs.Prelude.{Bool, not, ◌≡◌}
+use Rattle.std.specs.Prelude.{Bool, not, ◌≡◌, ℕ, suc, ◌+◌, ◌<◌, ◌≤◌, List, [], ◌∷◌}
 use Rattle.std.proofs.Math.Bool.{true, false, and-eq-true_iff}
-use mathlib.Core.List.{List, [], ◌∷◌, Memᴰ as Among}
+use mathlib.Core.List.{Memᴰ as Among}
 use Rattle.std.proofs.Math.Option.{some}
 use Rattle.std.proofs.Math.Path.{refl}
-use Rattle.std.proofs.Common.{ap, sym, ◌∙◌, le_of_eq}
+use Rattle.std.proofs.Common.{ap, sym, ◌∙◌, le_of_eq, arith}
 use Rattle.std.proofs.Math.Decide.{ℕ_discrete}
 use Rattle.std.proofs.Math.Nat.{add_left_comm}
-use native.Mathlib.Omega.{arith}
 use Rattle.instance.specs.Clause.{Literal, Weight, hard, soft, Clause, clause_at}
 use Rattle.instance.specs.Meaning.{Assignment, holds, falsified, broken, feasible, priced, cost}
 use Rattle.instance.specs.Within.{Every, In}

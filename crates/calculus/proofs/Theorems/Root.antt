@@ -1,9 +1,8 @@
 -- What the root is worth: what the clauses come to.
-use Rattle.std.specs.Prelude.{ℕ, ◌+◌, ◌<◌, min, Bool, ◌≡◌}
+use Rattle.std.specs.Prelude.{ℕ, ◌+◌, ◌<◌, min, Bool, ◌≡◌, List, [], ◌∷◌}
+use Rattle.std.proofs.Common.{arith}
 use Rattle.std.proofs.Math.Bool.{true, false, not, and-eq-true_iff}
-use mathlib.Core.List.{List, [], ◌∷◌}
 use Rattle.std.proofs.Math.Path.{refl}
-use native.Mathlib.Omega.{arith}
 use Rattle.instance.specs.Clause.{Weight, hard, soft, Body, Clause}
 use Rattle.instance.specs.Meaning.{Assignment, holds, broken, fine, feasible, priced, cost}
 use Rattle.instance.specs.Within.{Every, InBody}

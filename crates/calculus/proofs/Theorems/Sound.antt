@@ -1,10 +1,9 @@
 -- Demand 2 over records: what an accepted derivation claims is true. The least worth of the open branches never changes, and at
 -- the end none is open.
-use Rattle.std.specs.Prelude.{ℕ, suc, ◌≤◌, min, Bool, ◌≡◌}
+use Rattle.std.specs.Prelude.{ℕ, suc, ◌≤◌, min, Bool, ◌≡◌, List, [], ◌∷◌, ◌++◌}
+use Rattle.std.proofs.Common.{arith}
 use Rattle.std.proofs.Math.Bool.{true, false}
-use mathlib.Core.List.{List, [], ◌∷◌, ◌++◌}
 use Rattle.std.proofs.Math.Path.{refl, subst}
-use native.Mathlib.Omega.{arith}
 use Rattle.instance.specs.Clause.{Problem}
 use Rattle.instance.specs.Meaning.{Assignment, feasible, cost}
 use Rattle.instance.specs.Within.{Every, Fits}

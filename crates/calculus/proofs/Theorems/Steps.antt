@@ -1,12 +1,10 @@
 -- What a record that is not refused has done.
-use Rattle.std.specs.Prelude.{ℕ, ◌≤◌, Bool, ◌&&◌, ◌≡◌}
+use Rattle.std.specs.Prelude.{ℕ, ◌≤◌, Bool, ◌&&◌, ◌≡◌, List, [], ◌∷◌}
 use Rattle.std.proofs.Math.Bool.{true, false, and-eq-true_iff}
-use mathlib.Core.List.{List, [], ◌∷◌}
 use Rattle.std.proofs.Math.Option.{Option, some, none}
 use Rattle.std.proofs.Math.Path.{refl}
-use Rattle.std.proofs.Common.{subst, ◌∙◌}
+use Rattle.std.proofs.Common.{subst, ◌∙◌, leb-true, le-leb}
 use Rattle.std.proofs.Math.Dec.{leb}
-use borrow.Author.Tests.{leb-true, le-leb}
 use Rattle.instance.specs.Clause.{Clause, Problem, clause_at}
 use Rattle.instance.specs.declared.answers.Claim.{Claim}
 use Rattle.calculus.specs.declared.Record.{Record}

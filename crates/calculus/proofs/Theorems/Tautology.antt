@@ -1,7 +1,6 @@
 -- "A clause with some variable in both signs is a tautology: it .. is never falsified."
-use Rattle.std.specs.Prelude.{Bool, not, ◌&&◌, ◌||◌, ◌≡◌}
+use Rattle.std.specs.Prelude.{Bool, not, ◌&&◌, ◌||◌, ◌≡◌, List, [], ◌∷◌}
 use Rattle.std.proofs.Math.Bool.{true, false, and-false}
-use mathlib.Core.List.{List, [], ◌∷◌}
 use Rattle.std.proofs.Math.Path.{refl, sym}
 use Rattle.std.proofs.Common.{◌∙◌}
 use Rattle.instance.specs.Clause.{Literal, same, opposite, occurs, tautology}

@@ -1,8 +1,8 @@
 -- 01's own sentences about the rules (section "The branch").
-use Rattle.std.specs.Prelude.{ℕ, zero, suc, ◌≤◌, true, ◌≡◌, refl}
+use Rattle.std.specs.Prelude.{ℕ, zero, suc, ◌≤◌, true, ◌≡◌, refl, List, [], ◌∷◌}
 use Rattle.std.proofs.Math.Bool.{and-eq-true_iff}
 use mathlib.Core.List.Memᴰ
-use mathlib.Core.List.{List, [], ◌∷◌, Memᴰ as Among}
+use mathlib.Core.List.{Memᴰ as Among}
 use Rattle.std.proofs.Math.Option.{some}
 use Rattle.std.proofs.Math.Path.{ap}
 use Rattle.std.proofs.Common.{subst, ◌∙◌, arith}

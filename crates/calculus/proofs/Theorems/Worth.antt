@@ -1,14 +1,12 @@
 -- What a branch is worth to an assignment: booked cost and falsified live weight, capped at H, where a falsified hard clause, a
 -- hard mark that is not met, and a dead branch each come to H.
-use Prim.Native.Nat.{ℕ, ◌+◌, ◌≤◌, min}
-use Rattle.std.specs.Prelude.{Bool, not, ◌≡◌, refl}
+use Rattle.std.specs.Prelude.{Bool, not, ◌≡◌, refl, ℕ, ◌+◌, ◌≤◌, min, List, [], ◌∷◌}
 use Rattle.std.proofs.Math.Bool.{true, false, and-true}
-use mathlib.Core.List.{List, [], ◌∷◌, Memᴰ as Among}
+use mathlib.Core.List.{Memᴰ as Among}
 use Rattle.std.proofs.Math.Option.{some}
 use Rattle.std.proofs.Math.Path.{ap, subst}
-use Rattle.std.proofs.Common.{sym}
+use Rattle.std.proofs.Common.{sym, arith}
 use Rattle.std.proofs.Math.Nat.{add_left_comm}
-use native.Mathlib.Omega.{arith}
 use Rattle.instance.specs.Clause.{Literal, Weight, hard, soft, Body, clause, Clause, variable_of, opposite, clause_at}
 use Rattle.instance.specs.Meaning.{Assignment, holds, falsified, broken}
 use Rattle.instance.specs.Within.{In, InBody}

@@ -1,8 +1,7 @@
 -- Demand 3 over bytes: what Write gives for a true claim, Check accepts.
 use Rattle.std.specs.Prelude.{ℕ, suc, ◌+◌, ◌≤◌, List, [], ◌∷◌, ◌++◌, map, ◌≡◌}
 use Rattle.std.proofs.Math.Path.{refl, ap}
-use Rattle.std.proofs.Common.{◌∙◌, arith}
-use borrow.Author.Tests.{eq-eqb, le-leb}
+use Rattle.std.proofs.Common.{◌∙◌, arith, eq-eqb, le-leb}
 use Rattle.std.proofs.Math.ListN.{length, length-append}
 use Rattle.instance.specs.Clause.{Problem}
 use Rattle.instance.specs.Meaning.{assigned, cost}

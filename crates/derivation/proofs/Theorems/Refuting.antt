@@ -1,6 +1,5 @@
 -- Refusal 22 over bytes: the layout found meets the hard clauses and, under M, falsifies less than m.
-use Prim.Native.Nat.{ℕ, zero, suc, ◌+◌, ◌<◌, ◌≤◌}
-use Rattle.std.specs.Prelude.{Bool, List, [], ◌∷◌, map, leb, length, get_or}
+use Rattle.std.specs.Prelude.{Bool, List, [], ◌∷◌, map, leb, length, get_or, ℕ, zero, suc, ◌+◌, ◌<◌, ◌≤◌}
 use Rattle.std.proofs.Math.Bool.{true, false}
 use Rattle.std.proofs.Math.Path.{◌≡◌, refl, ap, subst}
 use Rattle.std.proofs.Common.{sym, ◌∙◌, arith}

@@ -1,9 +1,10 @@
 -- Laws of lent memory: whether it is enough, and how it is cleared.
 use Rattle.std.specs.Prelude.{ℕ, ◌+◌, ◌≤◌, ◌<◌, true, false, List, ◌≡◌, length, drop, set}
+use Rattle.std.proofs.Math.Decide.{dec_lt}
 use Rattle.std.proofs.lemmas.List.Edits.{fill_none, fill_more}
-use Rattle.std.proofs.Common.{le-leb}
+use Rattle.std.proofs.Common.{le-leb, arith}
 use Rattle.std.proofs.lemmas.Bool.{lt-leb}
-use Rattle.instance.specs.Memory.{ample, zeros, cleared}
+use Rattle.instance.specs.Memory.{store_size, ample, zeros, cleared}
 
 -- enough memory, or not
 pub ample_yes : (size : ℕ) (w : List ℕ) → size ≤ length w → ample size w ≡ true
@@ -27,3 +28,12 @@ cleared_more n w h = fill_more n 0 w h
 pub cleared_beyond : (size : ℕ) (v w : List ℕ) → drop size v ≡ drop size w → cleared size v ≡ cleared size w
 unfolding cleared
 cleared_beyond size v w e = rw e
+
+-- an answer for a store of either size
+pub on_size : {X : Type 0} {x y z : X} (store : List ℕ) → (length store < store_size → x ≡ z) → (store_size ≤ length store → x ≡ y)
+    → x ≡ elim (ample store_size store) as (λ _. X) [ true ↦ y | false ↦ z ]
+on_size {X} {x} {y} {z} store small large = go (dec_lt (length store) store_size)
+  where
+    go : Dec (length store < store_size) → x ≡ elim (ample store_size store) as (λ _. X) [ true ↦ y | false ↦ z ]
+    go (yes h) = rw (ample_no store_size store h) (small h)
+    go (no h) = let l : store_size ≤ length store = omega (arith, h) in rw (ample_yes store_size store l) (large l)

@@ -1,8 +1,7 @@
 -- Runs of stores: none, one, one run after another; and what going back gives after them.
 use Rattle.std.specs.Prelude.{ℕ, zero, suc, ◌+◌, ◌*◌, ◌-◌, ◌<◌, ◌≤◌, List, ◌≡◌, refl, length, get_or, set}
 use Rattle.std.proofs.Math.Path.{ap}
-use Rattle.std.proofs.Common.{◌∙◌, get_or-set_same, get_or-set_other, set-set}
-use native.Mathlib.Omega.{arith}
+use Rattle.std.proofs.Common.{arith, ◌∙◌, get_or-set_same, get_or-set_other, set-set}
 use Rattle.std.proofs.Math.Decide.{dec_lt}
 use Rattle.std.proofs.Math.ListN.{length-set}
 use Rattle.std.proofs.Math.Seq.{set-get_or}

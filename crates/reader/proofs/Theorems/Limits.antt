@@ -1,10 +1,8 @@
 -- Every instance that a text is read as keeps the limits, and its clauses hold no literal twice.
-use Prim.Native.Nat.{ℕ, ◌+◌, ◌*◌, ◌-◌, ◌≤◌, ◌<◌, max}
-use Rattle.std.specs.Prelude.{true, not, ◌&&◌, ◌||◌, List, [], ◌∷◌, ◌≡◌, eqb, leb, ltb, length}
+use Rattle.std.specs.Prelude.{ℕ, ◌+◌, ◌*◌, ◌-◌, ◌<◌, ◌≤◌, max, true, not, ◌&&◌, ◌||◌, List, [], ◌∷◌, ◌≡◌, eqb, leb, ltb, length}
 use Rattle.std.proofs.Math.Option.{Option, some, none}
-use Rattle.std.proofs.Common.{sym, subst, arith, leb-true, leb-false, ltb-false}
+use Rattle.std.proofs.Common.{sym, subst, arith, length-append, leb-true, leb-false, ltb-false}
 use Rattle.std.proofs.lemmas.Bool.{eqb-false, not-true}
-use Rattle.std.proofs.Math.ListN.{length-append}
 use Rattle.instance.specs.Limits.{most_variables, most_clauses, most_literals, most_weight}
 use Rattle.instance.specs.Clause.{
   Literal,

@@ -1,22 +1,17 @@
--- Each way through the function hands back the part that the choice names.
-use Rattle.std.proofs.Common.{refl}
-use Rattle.valuation.proofs.Choices.{handed_small, handed_by}
+-- The part that the work's choice names, or neither where the store is too small.
+use Rattle.std.proofs.Common.{rules, ◌≡◌, ap, ◌∙◌}
+use Rattle.std.specs.Result.{result_unwrap_or}
+use Rattle.instance.specs.Theorems.Memory.{on_size}
+use Rattle.valuation.specs.Better.{chosen_with}
+use Rattle.valuation.specs.declared.choosing.Choice.TheVariants.{Neither}
 use Rattle.valuation.proofs.choosing.better.Goals as goal
 
-pub returns-then-store-lt-STORE : goal.returns-then-store-lt-STORE
-returns-then-store-lt-STORE c = handed_small _ _ _ _ _ c.if-store-lt-STORE.true (refl, refl)
-
-pub returns-in-First : goal.returns-in-First
-returns-in-First c =
-    handed_by _ _ _ _ _ _ _ c.choice_left-c.new.store _ c.if-store-lt-STORE.false c.choice_left-c.ensures.value
-    c.in-First.is refl c.choice_left-c.ensures.beyond_kept c.clear.ensures
-
-pub returns-in-Second : goal.returns-in-Second
-returns-in-Second c =
-    handed_by _ _ _ _ _ _ _ c.choice_left-c.new.store _ c.if-store-lt-STORE.false c.choice_left-c.ensures.value
-    c.in-Second.is refl c.choice_left-c.ensures.beyond_kept c.clear.ensures
-
-pub returns-in-Neither : goal.returns-in-Neither
-returns-in-Neither c =
-    handed_by _ _ _ _ _ _ _ c.choice_left-c.new.store _ c.if-store-lt-STORE.false c.choice_left-c.ensures.value
-    c.in-Neither.is (refl, refl) c.choice_left-c.ensures.beyond_kept c.clear.ensures
+pub returns : goal.returns
+unfolding chosen_with
+returns c =
+    let a = c.args in
+    let over = c.over_store-choice.ensures in
+    let choice : c.unwrap_or.result ≡ chosen_with a.store.now a.text.now a.first.now a.second.now =
+    c.unwrap_or.ensures
+    ∙ on_size _ (λ small. ap (λ r. result_unwrap_or r Neither) (over.refused small)) (λ large. let worked = over.worked large in search rules) in
+    record { answer = rw (← choice) c.part.ensures; after = over.after }

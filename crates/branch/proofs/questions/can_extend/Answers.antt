@@ -1,5 +1,0 @@
-use Rattle.branch.proofs.Readings.{open_test}
-use Rattle.branch.proofs.questions.can_extend.Goals as goal
-
-pub returns : goal.returns
-returns c cs b h = open_test cs c.args.cells.now b h c.args.k c.requires.1
