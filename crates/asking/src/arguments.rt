@@ -17,7 +17,7 @@ fn pass(input: &mut impl Read, many: u64) -> bool {
     io::copy(&mut input.take(many), &mut io::sink()).is_ok_and(|passed| passed == many)
 }
 
-// The next argument, in the part of the lent memory that holds it.
+// The next argument, in the part of the lent memory that holds it. The bound is of the result, as a slice of the room has it.
 pub fn next_argument<'a, R: Read>(
     input: &mut R,
     room: &'a mut [u8],
@@ -27,6 +27,7 @@ pub fn next_argument<'a, R: Read>(
     ensures too_long { result ≡ Err ArgumentError.TooLong → IsOver (length room.old) (R.remaining input.old) }
 {
     let many = next_number(input).ok_or(ArgumentError::Ended)?;
+    // `as`, since std has no `From` between `u64` and `usize`, and a `try_from` could not fail.
     if (room.len() as u64) < many {
         return Err(if pass(input, many) {
             ArgumentError::TooLong

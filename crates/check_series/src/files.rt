@@ -27,7 +27,8 @@ impl fmt::Display for Unread {
     }
 }
 
-// Reads a file that is open, in pieces as they come. A folder opens and can't be read.
+// Reads a file that is open, in pieces as they come. A folder opens and can't be read. The bounds are of the result, here and below,
+// as a slice of the room has them: a struct for them would be no plainer.
 fn fill<'a, R: Read>(file: &mut R, room: &'a mut [u8]) -> Option<&'a [u8]>
     ensures within { IfSome result (λ read. length read.now ≤ length room.old) }
     ensures most { IfSome result (λ read. length read.now ≤ MOST) }

@@ -31,7 +31,7 @@ impl Walk<'_, '_> {
         ensures { Turned self.old self.new }
     {
         let frame = self.frames.last();
-        // A struct within `self` has to be lent before its journal is used.
+        // A struct within `self` has to be lent before a method that changes its journal is called.
         let branch = &mut self.branch;
         branch.journal.rewind(frame.height);
         let literal = self.held.literal_at(frame.next);

@@ -10,6 +10,7 @@ pub fn decode(proof: &[u8], at: usize) -> Option<(Record, usize)>
     requires { at < length proof.now }
     ensures { result ≡ decoded_as (item_at (get_or proof.now at 0) (drop (at + 1) proof.now)) at }
 {
+    // E and C have an arm each: they differ in a constructor, and one arm with a test inside would be no plainer.
     match &proof[at..] {
         [b'E', high, low, ..] => {
             let clause = u16::from_be_bytes([*high, *low]);

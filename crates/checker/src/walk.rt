@@ -14,8 +14,8 @@ use crate::steps::Step;
 use branch::Branch;
 use instance::{Claim, Fault, Held, Stage};
 
-// The branch at work, and the frames of the other open branches. Which branches these are (`Standing`) is asked of each call: it is
-// data and no mere fact, and it does not hold in the middle of a step.
+// The instance, the branch at work, and the frames of the other open branches. Which branches these are (`Standing`) is asked of each
+// call: it is data and no mere fact, and it does not hold in the middle of a step.
 #[derive(Drop)]
 pub struct Walk<'h, 'a> {
     pub held: Held<'h>,
@@ -50,7 +50,8 @@ impl Walk<'_, '_> {
     }
 }
 
-// The derivation after its claim: each record is taken in turn, from the root on.
+// The derivation after its claim: each record is taken in turn, from the root on. `Given` names the instance that the promise speaks
+// of: a premise, and no fact of the value alone.
 pub fn after_claim(
     held: &Held,
     desk: &mut Desk,

@@ -5,8 +5,8 @@ use crate::Instance;
 use crate::refusals::Stage;
 use std::fmt;
 
-// What the five questions answer: an enum each, with a refused case that holds the stage. The questions' definitions answer in
-// them. Below the questions a `Result` says the same.
+// What Survey, Value, Check and Write answer: an enum each, with a refused case that holds the stage. The definitions `survey_of`,
+// `value_of`, `check_of` and `answered` answer in them. Below the questions a `Result` says the same.
 
 // Survey: the numbers of the instance.
 #[derive(Clone, Copy, Debug, PartialEq, Eq)]

@@ -16,7 +16,7 @@ pub const FLAGS_AT: usize = 2000;
 pub const LITERALS_AT: usize = 3000;
 
 // A store that holds an instance, with the instance's numbers. The parts of the store lie one behind the other in lent memory of
-// `u64`: there is no heap. A clause goes by its index, whose bound each method asks for as `v[i]` does.
+// `u64`: there is no heap. A clause goes by its index and a literal by its place, whose bound each method asks for as `v[i]` does.
 #[derive(Clone, Copy)]
 pub struct Held<'a> {
     pub store: &'a [u64],
@@ -59,7 +59,8 @@ impl<'a> Held<'a> {
         self.store[FLAGS_AT + k] == 1
     }
 
-    // The code of the kept literal at a place: 2x is x, 2x + 1 is its opposite.
+    // The code of the kept literal at a place: 2x is x, 2x + 1 is its opposite. It stays a number, since it is also the place of the
+    // literal's cell.
     pub fn literal_at(&self, place: usize) -> usize
         requires { place < most_literals }
         ensures { result ≡ get_or self.now.store.now (literals_at + place) 0 }

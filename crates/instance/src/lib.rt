@@ -1,8 +1,8 @@
 #![tactic(auto)]
 
 // What every layer shares: the instance record with its limits, the refusal, the answers, the sizes of the lent memory, and the
-// instance as it lies in the store. Lent words are `u64` and places `usize`: `as` leads between them in every layer, since std has no
-// `From` for them and a `try_from` could not fail.
+// instance as it lies in the store. Lent words and an instance's numbers are `u64`, places and lengths `usize`: `as` leads between
+// them in every layer, since std has no `From` for them and a `try_from` could not fail.
 mod answers;
 mod faults;
 mod held;

@@ -3,7 +3,7 @@ ghost use Rattle.instance.specs.Refusals.{staged};
 
 use std::fmt;
 
-// A refusal: its stage and, inside, its number and its place.
+// A refusal: its stage and, inside, its number and its place. The number is no `Fault`, since `refusal` promises a stage for any.
 #[derive(Clone, Copy, Debug, PartialEq, Eq)]
 pub enum Stage {
     Memory(u64, usize),

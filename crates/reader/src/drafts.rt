@@ -28,7 +28,7 @@ pub struct Draft<'a> {
 impl<'a> Draft<'a> {
     ghost use Rattle.reader.specs.Drafts.{codes_from, Begins, Keeps, Closes};
 
-    // Nothing is read yet.
+    // Nothing is read yet. The bound on the store: see `over_store`.
     #[tactic(auto, unfolding(crate::specs::Reading::nothing, crate::specs::Survey::counts, instance::specs::Clause::total_of))]
     pub fn new(store: &'a mut [u64]) -> Draft<'a>
         requires { store_size ≤ length store.old }

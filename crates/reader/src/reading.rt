@@ -8,7 +8,8 @@ use crate::words::{first_word, later_word};
 use instance::{Fault, Instance, Stage};
 
 // Reads a text into the store, line by line and token by token, up to the first token at fault. The token loop lies inside the line
-// loop, and both are left by the label, since a refusal leaves them at once with its place.
+// loop, and both are left by the label, since a refusal leaves them at once with its place: by hand, since each token says where
+// the next begins. The bound on the store: see `over_store`.
 pub fn read(text: &[u8], store: &mut [u64]) -> Result<Instance, Stage>
     requires { store_size ≤ length store.old }
     ensures { ReadAnswers text.now store.old result store.new }

@@ -51,7 +51,7 @@ fn cheaper(first: Worth, second: Worth) -> Choice
     }
 }
 
-// The choice, with the instance left in the store.
+// The choice, with the instance left in the store. The bound on the store: see `over_store`.
 fn choice_left(text: &[u8], first: &[u8], second: &[u8], store: &mut [u64]) -> Result<Choice, Stage>
     requires { store_size ≤ length store.old }
     ensures { result_unwrap_or result Neither ≡ better_of text.now first.now second.now }

@@ -9,7 +9,8 @@ use crate::tally::tallied;
 use instance::{Fault, Held, Stage, Valued, Worth, over_store};
 use reader::read;
 
-// What an assignment is worth to the instance in the store.
+// What an assignment is worth to the instance in the store. `Given` names the instance that the promise speaks of: a premise, and no
+// fact of the value alone.
 pub fn valued(held: &Held, bytes: &[u8]) -> Result<Worth, Stage>
     ensures { (I : Problem) → Given held.now.store.now held.now.counts.variables held.now.counts.clauses I
         → as_answer result ≡ valuedOf I bytes.now }
@@ -23,7 +24,7 @@ pub fn valued(held: &Held, bytes: &[u8]) -> Result<Worth, Stage>
     Ok(tallied(held, bytes))
 }
 
-// The value, with the instance left in the store.
+// The value, with the instance left in the store. The bound on the store: see `over_store`.
 fn value_left(text: &[u8], bytes: &[u8], store: &mut [u64]) -> Result<Worth, Stage>
     requires { store_size ≤ length store.old }
     ensures { as_answer result ≡ value_of text.now bytes.now }

@@ -7,7 +7,7 @@ use checker::Desk;
 use instance::{CELLS, Checked, FRAMES, Fault, LOG, STORE, clear};
 
 // Check: whether a derivation shows that the assignment is cheapest, or that no assignment meets the hard clauses. Inputs and
-// workspaces are lent one by one, as whoever asks holds them.
+// workspaces are lent one by one: this signature and its clause `CheckAnswers` may not change.
 pub fn check(
     text: &[u8],
     bytes: &[u8],

@@ -12,7 +12,8 @@ use instance::{Claim, Fault, Held, Stage};
 use reader::read;
 use valuation::valued;
 
-// What a claim asks of the assignment. Under `Infeasible` the assignment is not read.
+// What a claim asks of the assignment. Under `Infeasible` the assignment is not read. `Given` names the instance that the promise
+// speaks of: a premise, and no fact of the value alone.
 fn check_assignment(held: &Held, bytes: &[u8], claim: Claim) -> Result<(), Stage>
     ensures { (proof : List ℕ) (I : Problem) → Given held.now.store.now held.now.counts.variables held.now.counts.clauses I
         → before result (followed I proof claim) ≡ claimed I bytes.now proof claim }
@@ -30,7 +31,8 @@ fn check_assignment(held: &Held, bytes: &[u8], claim: Claim) -> Result<(), Stage
     Ok(())
 }
 
-// The claim that is shown and the number of records, with the workspaces left as the work left them.
+// The claim that is shown and the number of records, with the workspaces left as the work left them. The inputs come singly, as
+// `check` is lent them, whose signature may not change. The bound on the store: see `over_store`.
 pub fn answer(
     text: &[u8],
     bytes: &[u8],
