@@ -10,3 +10,4 @@ pub mod Facts
 pub mod Held
 pub mod Memory
 pub mod Weights
+pub mod Decoded

@@ -10,7 +10,7 @@ use Rattle.instance.specs.Weights.{meant}
 use Rattle.instance.specs.Theorems.Clauses.{total_snoc}
 use Rattle.instance.specs.Theorems.Codes.{variable_in}
 use Rattle.instance.specs.Theorems.Literals.{kept_again, kept_new, tautology_snoc}
-use Rattle.instance.specs.Theorems.Weights.{soft_meant}
+use Rattle.instance.specs.Theorems.Decoded.{soft_meant}
 use Rattle.instance.specs.declared.Instance.{Instance}
 use Rattle.instance.specs.declared.faults.Fault.{Fault}
 use Rattle.reader.specs.declared.drafts.Draft.{Draft}

@@ -6,7 +6,7 @@ use Rattle.instance.specs.Clause.{Problem, tautology, total_of}
 use Rattle.instance.specs.Faults.{numbered}
 use Rattle.instance.specs.Store.{flag_of}
 use Rattle.instance.specs.Weights.{meant, coded}
-use Rattle.instance.specs.Theorems.Weights.{soft_meant}
+use Rattle.instance.specs.Theorems.Decoded.{soft_meant}
 use Rattle.instance.specs.declared.Instance.{Instance}
 use Rattle.instance.specs.declared.faults.Fault.{Fault}
 use Rattle.instance.specs.declared.weights.Weight.{Weight}

@@ -22,7 +22,7 @@ use Rattle.instance.specs.Store.{
 use Rattle.instance.specs.Weights.{meant, coded}
 use Rattle.instance.specs.Within.{Every, Weighty}
 use Rattle.instance.specs.Theorems.Codes.{weight_soft}
-use Rattle.instance.specs.Theorems.Weights.{soft_meant}
+use Rattle.instance.specs.Theorems.Decoded.{soft_meant}
 use Rattle.instance.specs.declared.weights.Weight as code
 use Rattle.instance.specs.Theorems.Every.{every_snoc, every_map}
 use Rattle.reader.specs.Drafts.{codes_from, literals_from}

@@ -7,7 +7,8 @@ use Rattle.instance.specs.Meaning.{Assignment, assigned, falsified, broken, fine
 use Rattle.instance.specs.Store.{weights_at, weight_of, literals_in, clause_in, clauses_in}
 use Rattle.instance.specs.Theorems.Clauses.{total_snoc}
 use Rattle.instance.specs.Theorems.Store.{clauses_length}
-use Rattle.instance.specs.Theorems.Weights.{cost_most, cost_snoc, meant_decoded}
+use Rattle.instance.specs.Theorems.Weights.{cost_most, cost_snoc}
+use Rattle.instance.specs.Theorems.Decoded.{meant_decoded}
 use Rattle.instance.specs.Weights.{meant, decoded}
 use Rattle.instance.specs.declared.answers.Worth.{Worth}
 use Rattle.instance.specs.declared.weights.Weight.{Weight}

@@ -2,7 +2,7 @@
 use Rattle.std.specs.Prelude.{ℕ, ◌+◌, ◌≤◌, ◌<◌, true, false, List, ◌≡◌, length, drop, set}
 use Rattle.std.proofs.Math.Decide.{dec_lt}
 use Rattle.std.proofs.lemmas.List.Edits.{fill_none, fill_more}
-use Rattle.std.proofs.Common.{le-leb, arith}
+use Rattle.std.proofs.Common.{ap, le-leb, arith}
 use Rattle.std.proofs.lemmas.Bool.{lt-leb}
 use Rattle.instance.specs.Memory.{store_size, ample, zeros, cleared}
 
@@ -29,11 +29,12 @@ pub cleared_beyond : (size : ℕ) (v w : List ℕ) → drop size v ≡ drop size
 unfolding cleared
 cleared_beyond size v w e = rw e
 
--- an answer for a store of either size
-pub on_size : {X : Type 0} {x y z : X} (store : List ℕ) → (length store < store_size → x ≡ z) → (store_size ≤ length store → x ≡ y)
-    → x ≡ elim (ample store_size store) as (λ _. X) [ true ↦ y | false ↦ z ]
-on_size {X} {x} {y} {z} store small large = go (dec_lt (length store) store_size)
+-- what is told of an answer, for a store of either size
+pub on_size : {R X : Type 0} (tell : R → X) {r small : R} {y : X} (store : List ℕ)
+    → (length store < store_size → r ≡ small) → (store_size ≤ length store → tell r ≡ y)
+    → tell r ≡ elim (ample store_size store) as (λ _. X) [ true ↦ y | false ↦ tell small ]
+on_size {R} {X} tell {r} {small} {y} store refused worked = go (dec_lt (length store) store_size)
   where
-    go : Dec (length store < store_size) → x ≡ elim (ample store_size store) as (λ _. X) [ true ↦ y | false ↦ z ]
-    go (yes h) = rw (ample_no store_size store h) (small h)
-    go (no h) = let l : store_size ≤ length store = omega (arith, h) in rw (ample_yes store_size store l) (large l)
+    go : Dec (length store < store_size) → tell r ≡ elim (ample store_size store) as (λ _. X) [ true ↦ y | false ↦ tell small ]
+    go (yes h) = rw (ample_no store_size store h) (ap tell (refused h))
+    go (no h) = let l : store_size ≤ length store = omega (arith, h) in rw (ample_yes store_size store l) (worked l)

@@ -1,12 +1,8 @@
--- What is falsified weighs no more than all; a weight as the code has it and as the definitions have it.
-use Rattle.std.specs.Prelude.{ℕ, zero, suc, ◌+◌, ◌≤◌, Bool, refl, true, false, List, [], ◌∷◌, ◌++◌, ◌≡◌}
+-- What is falsified weighs no more than all.
+use Rattle.std.specs.Prelude.{◌+◌, ◌≤◌, Bool, true, false, List, [], ◌∷◌, ◌++◌, ◌≡◌}
 use Rattle.std.proofs.Common.{arith}
 use Rattle.instance.specs.Clause.{Weight, hard, soft, Clause, soft_of, total_of}
 use Rattle.instance.specs.Meaning.{Assignment, broken, priced, cost}
-use Rattle.instance.specs.Store.{weight_of}
-use Rattle.instance.specs.Weights.{meant, coded, decoded}
-use Rattle.instance.specs.declared.weights.Weight as code
-use Rattle.instance.specs.declared.weights.Weight.TheVariants.{Hard, Soft}
 
 priced_most : (w : Weight) (t : Bool) → priced w t ≤ soft_of w
 unfolding priced soft_of
@@ -23,14 +19,3 @@ pub cost_snoc : (σ : Assignment) (cs : List Clause) (c : Clause) → cost σ (c
 unfolding cost
 cost_snoc σ [] c = omega arith
 cost_snoc σ (d ∷ cs) c = omega (arith, cost_snoc σ cs c)
-
--- ---- what is read off the store
-pub meant_decoded : (c : ℕ) → meant (decoded c) ≡ weight_of c
-unfolding weight_of
-meant_decoded zero = refl
-meant_decoded (suc c) = refl
-
-pub soft_meant : (w : code.Weight) → soft_of (meant w) ≡ coded w
-unfolding soft_of
-soft_meant Hard = refl
-soft_meant (Soft w) = refl

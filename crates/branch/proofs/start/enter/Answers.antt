@@ -1,6 +1,6 @@
 use Rattle.std.proofs.Common.{arith, sym, ◌∙◌}
 use Rattle.std.proofs.lemmas.List.{nil_from_length}
-use Rattle.instance.specs.Theorems.Weights.{meant_decoded}
+use Rattle.instance.specs.Theorems.Decoded.{meant_decoded}
 use Rattle.branch.proofs.Rooting.{next_none, next_one, next_shut, next_open, small_booked, small_weight, code_coded, single}
 use Rattle.branch.proofs.start.enter.Goals as goal
 

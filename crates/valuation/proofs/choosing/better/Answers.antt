@@ -1,5 +1,5 @@
 -- The part that the work's choice names, or neither where the store is too small.
-use Rattle.std.proofs.Common.{rules, ◌≡◌, ap, ◌∙◌}
+use Rattle.std.proofs.Common.{rules, ◌≡◌, ◌∙◌}
 use Rattle.std.specs.Result.{result_unwrap_or}
 use Rattle.instance.specs.Theorems.Memory.{on_size}
 use Rattle.valuation.specs.Better.{chosen_with}
@@ -13,5 +13,5 @@ returns c =
     let over = c.over_store-choice.ensures in
     let choice : c.unwrap_or.result ≡ chosen_with a.store.now a.text.now a.first.now a.second.now =
     c.unwrap_or.ensures
-    ∙ on_size _ (λ small. ap (λ r. result_unwrap_or r Neither) (over.refused small)) (λ large. let worked = over.worked large in search rules) in
+    ∙ on_size (λ r. result_unwrap_or r Neither) _ over.refused (λ large. let worked = over.worked large in search rules) in
     record { answer = rw (← choice) c.part.ensures; after = over.after }

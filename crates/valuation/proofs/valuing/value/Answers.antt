@@ -1,5 +1,5 @@
 -- The answer of the work, or the refusal of too small a store.
-use Rattle.std.proofs.Common.{rules, ap, ◌∙◌}
+use Rattle.std.proofs.Common.{rules, ◌∙◌}
 use Rattle.instance.specs.Answers.{valued as as_answer}
 use Rattle.instance.specs.Theorems.Memory.{on_size}
 use Rattle.valuation.proofs.valuing.value.Goals as goal
@@ -8,8 +8,6 @@ pub returns : goal.returns
 returns c =
     let over = c.over_store.ensures in
     record {
-      answer =
-          c.from.ensures
-          ∙ on_size _ (λ small. ap as_answer (over.refused small)) (λ large. let worked = over.worked large in search rules);
+      answer = c.from.ensures ∙ on_size as_answer _ over.refused (λ large. let worked = over.worked large in search rules);
       after = over.after;
     }

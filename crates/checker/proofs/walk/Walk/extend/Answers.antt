@@ -1,6 +1,6 @@
 use Rattle.std.proofs.Common.{suc, List, arith}
 use Rattle.instance.specs.Clause.{soft, Problem}
-use Rattle.instance.specs.Theorems.Weights.{meant_decoded}
+use Rattle.instance.specs.Theorems.Decoded.{meant_decoded}
 use Rattle.calculus.specs.Branch.{Branch, put}
 use Rattle.checker.proofs.Entering.{Poised, next_low, next_coded, coming}
 use Rattle.checker.proofs.Walks.{poised_first, frame_room, extended}

@@ -1,6 +1,6 @@
 use Rattle.std.proofs.Common.{List, ◌-◌, arith}
 use Rattle.instance.specs.Clause.{Problem}
-use Rattle.instance.specs.Theorems.Weights.{meant_decoded}
+use Rattle.instance.specs.Theorems.Decoded.{meant_decoded}
 use Rattle.journal.specs.Theorems.Stores.{rewound_length}
 use Rattle.calculus.specs.Branch.{Branch}
 use Rattle.checker.proofs.Entering.{Poised, clause_low, next_low, next_coded, coming}
