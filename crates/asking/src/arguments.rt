@@ -2,7 +2,6 @@ ghost use Rattle.std.specs.Prelude.{◌≡◌, length, IfOk, Err};
 ghost use Rattle.asking.specs.Arguments.{Within, Takes, IsOver};
 
 use crate::numbers::next_number;
-use std::io;
 use std::io::Read;
 
 // Why there is no argument: the memory lent for it is too small, or the input ends before it does.
@@ -12,9 +11,17 @@ pub enum ArgumentError {
     Ended,
 }
 
-// Passes over bytes of the input: whether it had so many.
+// Passes over bytes of the input, a part at a time: whether it had so many.
 fn pass(input: &mut impl Read, many: u64) -> bool {
-    io::copy(&mut input.take(many), &mut io::sink()).is_ok_and(|passed| passed == many)
+    let mut part = [0u8; 4096];
+    for _ in 0..many / 4096 {
+        if input.read_exact(&mut part).is_err() {
+            return false;
+        }
+    }
+    input
+        .read_exact(&mut part[..(many % 4096) as usize])
+        .is_ok()
 }
 
 // The next argument, in the part of the lent memory that holds it. The bound is of the result, as a slice of the room has it.

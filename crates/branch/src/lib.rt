@@ -10,6 +10,7 @@ mod questions;
 mod start;
 
 use journal::Journal;
+pub use start::root;
 
 // Where the cells of each kind begin; the weight of a literal lies at its code.
 // The cells are lent memory of `u64`, one word for each, so a death, a mark and a shut clause are each a 1 there.

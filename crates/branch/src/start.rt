@@ -44,6 +44,19 @@ fn enter(held: &Held, cells: &mut [u64], k: usize)
     }
 }
 
+// The root's cells, of the instance in the store. They ask for no log: a branch alone has one.
+pub fn root(held: &Held, cells: &mut [u64])
+    requires enough_cells { cells_size ≤ length cells.old }
+    ensures { (I : Problem) → Stored held.now.store.now I → held.now.counts.clauses ≡ length I.clauses
+        → Works I.clauses cells.new 0 0 0 (calculus.root I.clauses) }
+{
+    cells[..SHUTS].fill(0);
+    cells[SHUTS..CELLS].fill(1);
+    for k in 0..held.counts.clauses {
+        enter(held, cells, k);
+    }
+}
+
 impl<'a> Branch<'a> {
     // The root of the instance in the store.
     pub fn root(held: &Held, cells: &'a mut [u64], log: &'a mut [u64]) -> Branch<'a>
@@ -53,14 +66,11 @@ impl<'a> Branch<'a> {
             → Works I.clauses result.journal.cells.now 0 0 0 (calculus.root I.clauses) }
         ensures height { result.journal.top ≡ 0 }
         ensures log_kept { result.journal.log.now ≡ log.old }
+        ensures cells_length { length result.journal.cells.now ≡ length cells.old }
         ensures same_cells { result.journal.cells.ghost_name ≡ cells.entry.ghost_name }
         ensures same_log { result.journal.log.ghost_name ≡ log.entry.ghost_name }
     {
-        cells[..SHUTS].fill(0);
-        cells[SHUTS..CELLS].fill(1);
-        for k in 0..held.counts.clauses {
-            enter(held, cells, k);
-        }
+        root(held, cells);
         Branch {
             journal: Journal { cells, log, top: 0 },
         }

@@ -29,7 +29,7 @@ impl<'a> Journal<'a> {
         self.top += 1;
     }
 
-    // Takes back the stores above a height of the log, the last one first.
+    // Takes back the stores above a height of the log.
     pub fn rewind(&mut self, height: usize)
         requires { (height ≤ self.old.top) × (2 * self.old.top ≤ length self.old.log.now) × Places self.old.log.now height self.old.top (length self.old.cells.now) }
         ensures cells { self.new.cells.now ≡ rewound self.old.cells.now self.old.log.now self.old.top height }
@@ -37,10 +37,20 @@ impl<'a> Journal<'a> {
         ensures top { self.new.top ≡ height }
         ensures same_memory { Remains self.old self.new }
     {
-        for t in (height..self.top).rev() {
-            let place = self.log[2 * t] as usize;
-            self.cells[place] = self.log[2 * t + 1];
-        }
+        let top = self.top;
+        // The log is lent as the cells are: the prover has no rule yet for a `&` of one field beside a `&mut` of another.
+        rewind(&mut *self.cells, &mut *self.log, top, height);
         self.top = height;
+    }
+}
+
+// Takes back the stores of the entries from `height` to `top`, the last one first. The log is only read, so it may be lent as such.
+pub fn rewind(cells: &mut [u64], log: &[u64], top: usize, height: usize)
+    requires { (height ≤ top) × (2 * top ≤ length log.now) × Places log.now height top (length cells.old) }
+    ensures { cells.new ≡ rewound cells.old log.now top height }
+{
+    for t in (height..top).rev() {
+        let place = log[2 * t] as usize;
+        cells[place] = log[2 * t + 1];
     }
 }

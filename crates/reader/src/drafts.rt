@@ -1,6 +1,6 @@
-ghost use Rattle.std.specs.Prelude.{◌≡◌, ◌+◌, ◌<◌, ◌≤◌, length};
+ghost use Rattle.std.specs.Prelude.{map, ◌≡◌, ◌+◌, ◌<◌, ◌≤◌, length};
 ghost use Rattle.instance.specs.Limits.{most_clauses, most_literals, most_weight};
-ghost use Rattle.instance.specs.Clause.{opposite as oppositeOf};
+ghost use Rattle.instance.specs.Clause.{opposite as oppositeOf, occurs};
 ghost use Rattle.instance.specs.Memory.{store_size};
 ghost use Rattle.instance.specs.Store.{literal_of};
 ghost use Rattle.instance.specs.Weights.{coded};
@@ -74,10 +74,10 @@ impl<'a> Draft<'a> {
     {
         self.counts.variables = self.counts.variables.max(code / 2);
         self.counts.written += 1;
-        if self.codes().contains(&code) {
+        if has(self.codes(), code) {
             return;
         }
-        let is_opposed = self.codes().contains(&opposite(code));
+        let is_opposed = has(self.codes(), opposite(code));
         self.store[LITERALS_AT + self.kept] = code;
         self.kept += 1;
         if is_opposed {
@@ -93,6 +93,19 @@ impl<'a> Draft<'a> {
         self.store[self.counts.clauses] = self.kept as u64;
         self.counts.clauses += 1;
     }
+}
+
+// Whether a literal of these codes is the one of this code. std's `contains` goes by groups of words, and on a clause of hundreds of
+// literals it took half as long again.
+fn has(codes: &[u64], code: u64) -> bool
+    ensures { result ≡ occurs (literal_of code) (map literal_of codes.now) }
+{
+    for &c in codes {
+        if c == code {
+            return true;
+        }
+    }
+    false
 }
 
 fn opposite(code: u64) -> u64

@@ -4,6 +4,7 @@ ghost use Rattle.instance.specs.Clause.{Problem};
 ghost use Rattle.instance.specs.Memory.{store_size};
 ghost use Rattle.instance.specs.Store.{Given};
 ghost use Rattle.derivation.specs.Check.{followed, claimed, check_of};
+ghost use Rattle.checker.specs.Desks.{Remains};
 ghost use Rattle.verdict.specs.Claims.{before};
 
 use crate::claims::claim_of;
@@ -41,7 +42,8 @@ pub fn answer(
     desk: &mut Desk,
 ) -> Result<(Claim, usize), Stage>
     requires { store_size ≤ length store.old }
-    ensures { checked result ≡ check_of text.now bytes.now proof.now }
+    ensures judged { checked result ≡ check_of text.now bytes.now proof.now }
+    ensures same_memory { Remains desk.old desk.new }
 {
     let counts = read(text, store)?;
     let held = Held { store, counts };

@@ -25,7 +25,7 @@ unfolding roomy ample
 returns c =
     let a = c.args in
     let answers : CheckAnswers a.text.now a.bytes.now a.proof.now (desk a.store.now a.cells.now a.log.now a.frames.now) c.from.result (desk c.clear.new.part c.clear-2.new.part c.clear-3.new.part c.clear-4.new.part) =
-    desk_cleared _ _ _ _ _ (grind (arith, nat_tests)) (c.from.ensures ∙ c.answer-verdict.ensures)
+    desk_cleared _ _ _ _ _ (grind (arith, nat_tests)) (c.from.ensures ∙ c.answer-verdict.ensures.judged)
     (whole_cleared store_size a.store.now _ _ c.if-store-lt-STORE.false c.clear.ensures c.answer-verdict.auto.store)
     (whole_cleared cells_size a.cells.now _ _ c.if-cells-lt-CELLS.false c.clear-2.ensures (search rules))
     (whole_cleared log_size a.log.now _ _ c.if-log-lt-LOG.false c.clear-3.ensures (search rules))

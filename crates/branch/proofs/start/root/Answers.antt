@@ -1,6 +1,6 @@
 use Rattle.std.proofs.Common.{arith, length-take, length-drop, length-append}
 use Rattle.branch.proofs.Rooting.{blank_filled, rooted_none, rooted_all}
-use Rattle.branch.proofs.Branch.root.Goals as goal
+use Rattle.branch.proofs.start.root.Goals as goal
 
 pub slice_bounds-fill-end-2 : goal.slice_bounds-fill-end-2
 slice_bounds-fill-end-2 c = omega (arith, length-take 2002 c.args.cells.now)
@@ -14,8 +14,8 @@ loop-k-init c =
     (simp (length-take, length-drop, length-append) (omega arith)))
     _ _
 
-pub returns-clause-works : goal.returns-clause-works
-returns-clause-works c =
+pub returns : goal.returns
+returns c =
     let end = c.loop-k.auto.k-end in
     let done = c.loop-k-test.false in
     rooted_all c.args.held.now.holds c.loop-k.invariant (omega arith)
