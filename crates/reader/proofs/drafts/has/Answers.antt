@@ -1,6 +1,5 @@
-use Rattle.std.proofs.Common.{ℕ, List, ◌∷◌, drop, ◌+◌, get_or, ◌≡◌, true, sym, ◌∙◌, arith, eqb, eq-eqb, ne_eqb, refl}
+use Rattle.std.proofs.Common.{ℕ, List, ◌∷◌, ◌≡◌, true, sym, arith, eq-eqb, ne_eqb, refl}
 use Rattle.instance.specs.Clause.{occurs}
-use Rattle.instance.specs.Store.{literal_of}
 use Rattle.instance.specs.Theorems.Codes.{same_literals}
 use Rattle.instance.specs.Theorems.Scan.{same_more, same_stop, same_end}
 use Rattle.reader.proofs.drafts.has.Invariants.{occurs_in}
