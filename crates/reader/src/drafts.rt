@@ -95,8 +95,8 @@ impl<'a> Draft<'a> {
     }
 }
 
-// Whether a literal of these codes is the one of this code. std's `contains` goes by groups of words, and on a clause of hundreds of
-// literals it took half as long again.
+// Whether a literal of these codes is the one of this code. std's `contains` goes by groups of words, in a longer loop
+// (docs/DESIGN-PASS.md, "Speed").
 fn has(codes: &[u64], code: u64) -> bool
     ensures { result ≡ occurs (literal_of code) (map literal_of codes.now) }
 {
